@@ -1,0 +1,6 @@
+pub mod Cells
+pub mod Sound
+pub mod Refusals
+pub mod Answers
+pub mod One
+pub mod Cases

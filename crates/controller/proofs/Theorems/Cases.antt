@@ -1,0 +1,169 @@
+-- The bench cases, each by the rules that it runs through.
+-- Assumes nothing.
+use mathlib.Core.Bool.{Bool, true, false, cond, not, and-false}
+use mathlib.Core.List.{List, [], _∷_}
+use mathlib.Core.Path.{_≡_, refl, sym, ap, _∙_}
+use Prim.Native.Nat.{ℕ, _-_, _≤_}
+use native.Mathlib.Nat.{sub-eq-zero-of-le}
+use native.Mathlib.Omega.{arith}
+use lib.Dec.{ltb, eqb}
+use lib.ListN.{length, getD, set, length-set}
+use lib.Seq.{getD-set-same}
+use borrow.Author.Tests.{eq-eqb}
+use Rattle.controller.proofs.Laws.Cells.{place-below}
+use Rattle.controller.proofs.Laws.Memory.{performed-length}
+use Rattle.controller.proofs.Laws.Taken.{covered, taken}
+use Rattle.controller.proofs.Theorems.Sound.{transfer-keeps-sound}
+use Rattle.controller.proofs.Laws.Record.{sound-counter, waited-sound}
+use Rattle.controller.specs.declared.cells.Counter.{Counter}
+use Rattle.controller.specs.declared.cells.Counter.the-variants.{Display, Pattern}
+use Rattle.controller.specs.declared.decision.Answer.{Answer}
+use Rattle.controller.specs.declared.decision.Answer.the-variants.{Done, NoCell, Unsound, BadTransfer}
+use Rattle.controller.specs.declared.decision.Decision.{Decision}
+use Rattle.controller.specs.declared.execute.Transfer.{Transfer}
+use Rattle.controller.specs.declared.execute.Transfer.the-variants.{Instruct, Write, Status, Read}
+use Rattle.controller.specs.declared.«record».Half.{Half}
+use Rattle.controller.specs.declared.«record».Half.the-variants.{Empty, InstructionWrite, DataWrite, StatusRead, DataRead}
+use Rattle.controller.specs.declared.«record».Record.{Record}
+use Rattle.controller.specs.Bus.{decided, ordered, whole, badTransfer, mustWait, noHalf}
+use Rattle.controller.specs.Cases.{Waits, P1, WriteLeads, P2, P3, Answers, P4, P6, P8, P9, P10, P11}
+use Rattle.controller.specs.Cells.{onCell, wrapped, stepped, placeOf, byteAt, addressOf, addOfCell, acgOfCell, cellOfAdd, cellOfAcg}
+use Rattle.controller.specs.Decision.{numberOf, performed, done, refused}
+use Rattle.controller.specs.Execute.{shortTime, longTime, statusOf, completed, executed, addressed, carried, written, readOut, homed}
+use Rattle.controller.specs.Halves.{accepted, narrow, begun, firstHalf, firstTold, secondHalf, crossed}
+use Rattle.controller.specs.Instruction.{decoded, bit}
+use Rattle.controller.specs.Record.{resetRecord, resetTime, sound, halfSound, waited, withHalf}
+use Rattle.controller.specs.Runs.{State, Sent, Told, decidedOf, after, toldOf, heard}
+
+-- with its memory whole and its busy time covered, a sound controller takes every transfer that is well formed
+waits-taken : (rec : Record) (mem : List ℕ) (wide : Bool) (half : Half) (kind byte wait : ℕ) → Waits rec mem wide half wait → badTransfer kind byte ≡ false
+    → decided rec mem kind byte wait ≡ accepted mem kind byte (waited wait rec)
+waits-taken rec mem wide half kind byte wait w good = taken rec mem kind byte wait (w .sound) (w .whole) good (covered kind wait rec (w .over))
+
+taken-wide : (rec : Record) (mem : List ℕ) (half : Half) (kind byte wait : ℕ) → Waits rec mem true half wait → badTransfer kind byte ≡ false
+    → decided rec mem kind byte wait ≡ completed mem (begun kind byte (waited wait rec)) (waited wait rec)
+unfolding accepted
+taken-wide rec mem half kind byte wait w good = waits-taken rec mem true half kind byte wait w good ∙ rw (w .width)
+
+taken-narrow : (rec : Record) (mem : List ℕ) (half : Half) (kind byte wait : ℕ) → Waits rec mem false half wait → badTransfer kind byte ≡ false
+    → decided rec mem kind byte wait ≡ narrow mem kind byte half (waited wait rec)
+unfolding accepted
+taken-narrow rec mem half kind byte wait w good = waits-taken rec mem false half kind byte wait w good ∙ rw (w .width, w .holds)
+
+pub p1 : P1
+unfolding decided ordered whole sound halfSound onCell resetRecord resetTime badTransfer mustWait noHalf accepted begun completed statusOf addressOf addOfCell
+p1 mem long = (rw long refl, rw long refl)
+
+write-leads : (n : Bool) (counter : Counter) (from to : ℕ) → addressOf n counter ≡ from → addressOf n (stepped true counter) ≡ to → WriteLeads n counter from to
+unfolding badTransfer begun completed written
+write-leads n counter from to at next rec mem byte wait w lines up place =
+    (at, ap (λ (d : Decision). addressOf n (d .rec .counter)) (taken-wide rec mem Empty 1 byte wait w refl) ∙ simp (up, place) next)
+
+pub p2 : P2
+unfolding addressOf addOfCell stepped wrapped
+p2 = write-leads true (Display 39) 0x27 0x40 refl refl
+
+pub p3 : P3
+unfolding addressOf addOfCell stepped wrapped
+p3 = (write-leads true (Display 79) 0x67 0x00 refl refl, write-leads false (Display 79) 0x4F 0x00 refl refl)
+
+pub p6 : P6
+unfolding addressOf acgOfCell stepped wrapped
+p6 n = write-leads n (Pattern 63) 0x3F 0x00 refl refl
+
+-- a display address, answered by the cell that it names
+answers : (n : Bool) (byte : ℕ) (answer : Answer) → ((mem : List ℕ) (rec : Record) → rec .function .n ≡ n → executed mem (decoded byte) rec .answer ≡ answer)
+    → Answers n byte answer
+unfolding badTransfer begun completed
+answers n byte answer told rec mem wait w lines =
+    ap (λ (d : Decision). d .answer) (taken-wide rec mem Empty 0 byte wait w refl) ∙ told mem (waited wait rec) lines
+
+pub p4 : P4
+unfolding executed decoded addressed cellOfAdd
+p4 = (
+  answers true 0xA7 Done (λ mem rec lines. rw lines refl),
+  answers true 0xA8 NoCell (λ mem rec lines. rw lines refl),
+  answers true 0xBF NoCell (λ mem rec lines. rw lines refl),
+  answers true 0xE7 Done (λ mem rec lines. rw lines refl),
+  answers true 0xE8 NoCell (λ mem rec lines. rw lines refl),
+  answers false 0xCF Done (λ mem rec lines. rw lines refl),
+  answers false 0xD0 NoCell (λ mem rec lines. rw lines refl),
+)
+
+pub p9 : P9
+unfolding badTransfer narrow secondHalf completed executed decoded bit crossed
+p9 rec mem wait w = taken-narrow rec mem (InstructionWrite 0) 0 0x30 wait w refl
+
+-- a stored byte is there
+stored : (mem : List ℕ) (rec : Record) (byte : ℕ) → length mem ≡ 144 → sound rec ≡ true → getD (set mem (placeOf (rec .counter)) byte) (placeOf (rec .counter)) 0 ≡ byte
+stored mem rec byte long s =
+    getD-set-same mem (placeOf (rec .counter)) byte 0 (omega (arith, place-below (rec .counter) (sound-counter rec s)))
+
+pub p10 : P10
+unfolding badTransfer narrow secondHalf completed written crossed numberOf performed
+p10 rec mem wait w =
+    let d : decided rec mem 0 0x30 wait ≡ narrow mem 0 0x30 (DataWrite 4) (waited wait rec) = taken-narrow rec mem (DataWrite 4) 0 0x30 wait w refl in (
+      ap (λ (x : Decision). x .answer) d,
+      ap (λ (x : Decision). getD (performed (x .effect) mem) (placeOf (rec .counter)) 0) d ∙ stored mem rec 0x43 (w .whole) (w .sound),
+    )
+
+-- the first of P8's halves, and the controller that it leaves
+p8-first : (rec : Record) (mem : List ℕ) (wait : ℕ) → Waits rec mem false Empty wait
+    → decided rec mem 1 0x40 wait ≡ firstTold 0 (DataWrite 4) (waited wait rec)
+unfolding badTransfer narrow begun firstHalf
+p8-first rec mem wait w = taken-narrow rec mem Empty 1 0x40 wait w refl
+
+p8-between : (rec : Record) (mem : List ℕ) (wait later : ℕ) → Waits rec mem false Empty wait
+    → Waits (decided rec mem 1 0x40 wait .rec) mem false (DataWrite 4) later
+p8-between rec mem wait later w =
+    let d = p8-first rec mem wait w in
+    record {
+      sound = transfer-keeps-sound rec mem 1 0x40 wait (omega arith) (w .sound);
+      whole = w .whole;
+      width = ap (λ (x : Decision). x .rec .wide) d ∙ w .width;
+      holds = ap (λ (x : Decision). x .rec .half) d;
+      over = omega (arith, ap (λ (x : Decision). x .rec .busy) d, w .over);
+    }
+
+pub p8 : P8
+unfolding badTransfer narrow secondHalf completed written crossed numberOf performed
+p8 rec mem wait later w =
+    let one = decided rec mem 1 0x40 wait .rec in
+    let first = p8-first rec mem wait w in
+    let second : decided one mem 1 0x10 later ≡ narrow mem 1 0x10 (DataWrite 4) (waited later one) =
+    taken-narrow one mem (DataWrite 4) 1 0x10 later (p8-between rec mem wait later w) refl in
+    let there : one .counter ≡ rec .counter = ap (λ (x : Decision). x .rec .counter) first in (
+      ap (λ (x : Decision). x .answer) first,
+      ap (λ (x : Decision). x .answer) second,
+      ap (λ (x : Decision). getD (performed (x .effect) mem) (placeOf (rec .counter)) 0) second
+          ∙ ap (λ (x : Counter). getD (set mem (placeOf x) 0x41) (placeOf (rec .counter)) 0) there
+          ∙ stored mem rec 0x41 (w .whole) (w .sound),
+    )
+
+-- what a transfer comes to once the memory is known to be whole
+openly : Record → List ℕ → ℕ → ℕ → ℕ → Decision
+openly rec mem kind byte wait =
+    cond (not (sound rec)) (refused Unsound rec) (cond (badTransfer kind byte) (refused BadTransfer rec) (ordered mem kind byte rec (waited wait rec)))
+
+opened : (rec : Record) (mem : List ℕ) (kind byte wait : ℕ) → length mem ≡ 144 → decided rec mem kind byte wait ≡ openly rec mem kind byte wait
+unfolding decided openly whole
+opened rec mem kind byte wait long = simp (eq-eqb (length mem) 144 long)
+
+-- what is told of transfers to a memory that is known to be whole
+openHeard : State → List Sent → List Told
+openHeard s [] = []
+openHeard s (t ∷ ts) =
+    let d = openly (s .rec) (s .mem) (t .kind) (t .byte) (t .wait) in
+    toldOf d ∷ openHeard (after s d) ts
+
+heard-open : (s : State) (ts : List Sent) → length (s .mem) ≡ 144 → heard s ts ≡ openHeard s ts
+unfolding heard openHeard
+heard-open s [] long = refl
+heard-open s (t ∷ ts) long =
+    let d = openly (s .rec) (s .mem) (t .kind) (t .byte) (t .wait) in
+    ap (λ (x : Decision). toldOf x ∷ heard (after s x) ts) (opened (s .rec) (s .mem) (t .kind) (t .byte) (t .wait) long)
+    ∙ ap (λ (l : List Told). toldOf d ∷ l) (heard-open (after s d) ts (performed-length (d .effect) (s .mem) long))
+
+pub p11 : P11
+unfolding openHeard openly ordered sound halfSound onCell resetRecord resetTime badTransfer mustWait noHalf accepted begun completed statusOf addressOf addOfCell executed decoded bit written carried stepped wrapped placeOf readOut shortTime performed numberOf
+p11 mem long = heard-open _ _ long

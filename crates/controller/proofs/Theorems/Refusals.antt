@@ -1,0 +1,157 @@
+-- What a refusal leaves: byte 00h, the memory as found, and the record as its row says.
+-- Assumes nothing.
+use mathlib.Core.Bool.{Bool, true, false, cond, not, false≢true}
+use mathlib.Core.List.{List}
+use mathlib.Core.Path.{_≡_, refl, sym, ap, _∙_}
+use Prim.Native.Nat.{ℕ, _-_}
+use lib.Dec.{leb}
+use borrow.Author.Tests.{not-false}
+use Rattle.controller.proofs.Laws.Choice.{cond-elim}
+use Rattle.controller.proofs.Laws.Instruction.{Plain, decoded-address, decoded-plain}
+use Rattle.controller.proofs.Laws.Kept.{wide-none}
+use Rattle.controller.proofs.Laws.Record.{sound-half, waited-sound}
+use Rattle.controller.specs.declared.cells.Named.{Named}
+use Rattle.controller.specs.declared.cells.Named.the-variants.{Cell, Outside}
+use Rattle.controller.specs.declared.decision.Answer.{Answer}
+use Rattle.controller.specs.declared.decision.Answer.the-variants.{Done, Unsound, NotWhole, BadTransfer, Busy, FirstHalf, NoCell, StaleRead, CrossedHalves, CounterOff, BadSize, OutputShort, BadLine, NotWish}
+use Rattle.controller.specs.declared.decision.Decision.{Decision}
+use Rattle.controller.specs.declared.decision.Effect.the-variants.{Blank}
+use Rattle.controller.specs.declared.execute.Transfer.{Transfer}
+use Rattle.controller.specs.declared.execute.Transfer.the-variants.{Instruct, Write, Status, Read}
+use Rattle.controller.specs.declared.instruction.Instruction.{Instruction}
+use Rattle.controller.specs.declared.instruction.Instruction.the-variants.{Nothing, Clear, Home, SetEntry, SetControl, MoveCursor, ShiftDisplay, SetFunction, PatternAddress, DisplayAddress}
+use Rattle.controller.specs.declared.«record».Half.{Half}
+use Rattle.controller.specs.declared.«record».Half.the-variants.{Empty, InstructionWrite, DataWrite, StatusRead, DataRead}
+use Rattle.controller.specs.declared.«record».Record.{Record}
+use Rattle.controller.specs.Bus.{decided, ordered, resetDecided, whole, badTransfer, mustWait}
+use Rattle.controller.specs.Cells.{onCell, cellOfAdd}
+use Rattle.controller.specs.Decision.{numberOf, isRefusal, refused}
+use Rattle.controller.specs.Execute.{completed, executed, addressed, written, readOut}
+use Rattle.controller.specs.Halves.{accepted, narrow, begun, firstHalf, secondHalf, crossed, ended}
+use Rattle.controller.specs.Instruction.{decoded}
+use Rattle.controller.specs.Record.{sound, waited, withHalf, resetRecord}
+use Rattle.controller.specs.Theorems.{left, LeavesAsSaid, TransferRefusals, ResetRefusals}
+
+-- this decision, if it refuses, is a 6 that leaves this record
+abbrev OnlySix : Record → Decision → Type 0
+OnlySix rec d = isRefusal (d .answer) ≡ true → d ≡ refused NoCell rec
+
+plain-only : (mem : List ℕ) (i : Instruction) (rec : Record) → Plain i → OnlySix rec (executed mem i rec)
+unfolding executed isRefusal
+plain-only mem Nothing rec p r = absurd (false≢true r)
+plain-only mem Clear rec p r = absurd (false≢true r)
+plain-only mem Home rec p r = absurd (false≢true r)
+plain-only mem (SetEntry entry) rec p r = absurd (false≢true r)
+plain-only mem (SetControl control) rec p r = absurd (false≢true r)
+plain-only mem (MoveCursor right) rec p r = absurd (false≢true r)
+plain-only mem (ShiftDisplay right) rec p r = absurd (false≢true r)
+plain-only mem (SetFunction wide function) rec p r = absurd (false≢true r)
+plain-only mem (PatternAddress acg) rec p r = absurd (false≢true r)
+plain-only mem (DisplayAddress add) rec p r = absurd p
+
+addressed-only : (mem : List ℕ) (named : Named) (rec : Record) → OnlySix rec (addressed mem named rec)
+unfolding addressed isRefusal
+addressed-only mem (Cell cell) rec r = absurd (false≢true r)
+addressed-only mem Outside rec r = refl
+
+address-only : (mem : List ℕ) (byte : ℕ) (rec : Record) → leb 0x80 byte ≡ true → OnlySix rec (executed mem (decoded byte) rec)
+unfolding executed
+address-only mem byte rec high = rw (decoded-address byte high) (addressed-only mem _ rec)
+
+instruct-only : (mem : List ℕ) (byte : ℕ) (rec : Record) → OnlySix rec (executed mem (decoded byte) rec)
+instruct-only mem byte rec = go (leb 0x80 byte) refl
+  where
+    go : (t : Bool) → leb 0x80 byte ≡ t → OnlySix rec (executed mem (decoded byte) rec)
+    go true high = address-only mem byte rec high
+    go false low = plain-only mem (decoded byte) rec (decoded-plain byte low)
+
+read-never : (fresh : Bool) → isRefusal (cond fresh Done StaleRead) ≡ false
+unfolding isRefusal
+read-never true = refl
+read-never false = refl
+
+completed-only : (mem : List ℕ) (t : Transfer) (rec : Record) → OnlySix rec (completed mem t rec)
+unfolding completed written readOut isRefusal
+completed-only mem (Instruct byte) rec r = instruct-only mem byte rec r
+completed-only mem (Write byte) rec r = absurd (false≢true r)
+completed-only mem (Status byte) rec r = absurd (false≢true r)
+completed-only mem (Read byte) rec r = absurd (false≢true (sym (read-never (rec .fresh)) ∙ r))
+
+-- crossing makes no refusal
+crossed-refusal : (same : Bool) (answer : Answer) → isRefusal (crossed same answer) ≡ true → isRefusal answer ≡ true
+unfolding crossed isRefusal numberOf
+crossed-refusal true answer r = r
+crossed-refusal false Done r = absurd (false≢true r)
+crossed-refusal false Unsound r = r
+crossed-refusal false NotWhole r = r
+crossed-refusal false BadTransfer r = r
+crossed-refusal false Busy r = r
+crossed-refusal false FirstHalf r = r
+crossed-refusal false NoCell r = r
+crossed-refusal false StaleRead r = r
+crossed-refusal false CrossedHalves r = r
+crossed-refusal false CounterOff r = r
+crossed-refusal false BadSize r = r
+crossed-refusal false OutputShort r = r
+crossed-refusal false BadLine r = r
+crossed-refusal false NotWish r = r
+
+-- a 6 stays a 6
+ended-six : (same : Bool) (rec : Record) → ended same (refused NoCell rec) ≡ refused NoCell rec
+unfolding crossed numberOf
+ended-six true rec = refl
+ended-six false rec = refl
+
+second-only : (mem : List ℕ) (same : Bool) (t : Transfer) (rec : Record) → OnlySix (withHalf Empty rec) (secondHalf mem same t rec)
+unfolding secondHalf
+second-only mem same t rec r =
+    let d = completed mem t (withHalf Empty rec) in
+    ap (ended same) (completed-only mem t (withHalf Empty rec) (crossed-refusal same (d .answer) r)) ∙ ended-six same (withHalf Empty rec)
+
+first-never : (t : Transfer) (rec : Record) → isRefusal (firstHalf t rec .answer) ≡ false
+unfolding firstHalf isRefusal
+first-never (Instruct byte) rec = refl
+first-never (Write byte) rec = refl
+first-never (Status byte) rec = refl
+first-never (Read byte) rec = refl
+
+narrow-only : (mem : List ℕ) (kind byte : ℕ) (half : Half) (rec : Record) → OnlySix (withHalf Empty rec) (narrow mem kind byte half rec)
+unfolding narrow
+narrow-only mem kind byte Empty rec r = absurd (false≢true (sym (first-never (begun kind byte rec) rec) ∙ r))
+narrow-only mem kind byte (InstructionWrite high) rec r = second-only mem _ _ rec r
+narrow-only mem kind byte (DataWrite high) rec r = second-only mem _ _ rec r
+narrow-only mem kind byte (StatusRead taken) rec r = second-only mem _ _ rec r
+narrow-only mem kind byte (DataRead taken) rec r = second-only mem _ _ rec r
+
+-- at width 8 there is no half to lose
+no-half : (rec : Record) → sound rec ≡ true → rec .wide ≡ true → rec ≡ withHalf Empty rec
+no-half rec s wide = ap (λ (half : Half). withHalf half rec) (wide-none (rec .wide) (rec .busy) (rec .half) wide (sound-half rec s))
+
+accepted-only : (mem : List ℕ) (kind byte : ℕ) (rec : Record) → sound rec ≡ true → OnlySix (withHalf Empty rec) (accepted mem kind byte rec)
+unfolding accepted
+accepted-only mem kind byte rec s =
+    cond-elim (OnlySix (withHalf Empty rec)) (rec .wide) _ _
+    (λ wide r. completed-only mem (begun kind byte rec) rec r ∙ ap (refused NoCell) (no-half rec s wide))
+    (λ _. narrow-only mem kind byte (rec .half) rec)
+
+-- a 6 leaves what its row says
+six-leaves : (wait : ℕ) (rec : Record) (d : Decision) → OnlySix (withHalf Empty (waited wait rec)) d → LeavesAsSaid wait rec d
+unfolding left numberOf
+six-leaves wait rec d only r = rw (only r) refl
+
+pub transfer-refusals : TransferRefusals
+unfolding decided ordered left numberOf
+transfer-refusals rec mem kind byte wait =
+    let P : Decision → Type 0 = LeavesAsSaid wait rec in
+    cond-elim P (not (sound rec)) _ _ (λ _ _. refl)
+    (λ s. cond-elim P (not (whole mem)) _ _ (λ _ _. refl)
+    (λ _. cond-elim P (badTransfer kind byte) _ _ (λ _ _. refl)
+    (λ _. cond-elim P (mustWait kind (waited wait rec)) _ _ (λ _ _. refl)
+    (λ _. cond-elim P (not (onCell (rec .counter))) _ _ (λ _ _. refl)
+    (λ _. six-leaves wait rec (accepted mem kind byte (waited wait rec))
+    (accepted-only mem kind byte (waited wait rec) (waited-sound wait rec (not-false _ s))))))))
+
+pub reset-refusals : ResetRefusals
+unfolding resetDecided isRefusal
+reset-refusals rec mem =
+    cond-elim (λ (d : Decision). isRefusal (d .answer) ≡ true → d ≡ refused NotWhole rec) (whole mem) _ _ (λ _ r. absurd (false≢true r)) (λ _ _. refl)

@@ -1,0 +1,24 @@
+-- The theorems of soundness: every call keeps a sound record sound, and its effect within the memory.
+-- Assumes nothing.
+use mathlib.Core.Bool.{true}
+use mathlib.Core.Path.{_≡_, refl}
+use native.Mathlib.Omega.{arith}
+use Rattle.controller.proofs.Laws.Cells.{display-on}
+use Rattle.controller.proofs.Laws.Kept.{decided-kept, decided-fits, reset-fits, idle-sound}
+use Rattle.controller.specs.Bus.{resetDecided}
+use Rattle.controller.specs.Record.{resetRecord, resetTime, sound}
+use Rattle.controller.specs.Theorems.{TransferKeepsSound, ResetMakesSound, EffectsFit}
+
+pub transfer-keeps-sound : TransferKeepsSound
+transfer-keeps-sound rec mem kind byte wait below s = decided-kept rec mem kind byte wait below s .sound
+
+reset-sound : sound resetRecord ≡ true
+unfolding resetRecord
+reset-sound = idle-sound resetRecord (record { shift = omega arith; counter = display-on 0 (omega arith); half = refl }) (omega arith)
+
+pub reset-makes-sound : ResetMakesSound
+unfolding resetDecided
+reset-makes-sound rec mem w = rw w reset-sound
+
+pub effects-fit : EffectsFit
+effects-fit rec mem = (decided-fits rec mem, reset-fits rec mem)

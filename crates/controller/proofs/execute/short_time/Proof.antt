@@ -1,0 +1,14 @@
+-- `controller::execute::short_time` meets its contract: at each return what led there says which case of `shortTime`
+-- holds.
+-- Assumes nothing.
+use Rattle.controller.specs.Execute.{shortTime}
+use mathlib.Core.Path.{refl}
+use Rattle.controller.proofs.execute.short_time.Statement.{statement}
+use Rattle.controller.proofs.execute.short_time.Tie as tie
+
+returns : tie.Need-returns
+unfolding shortTime
+returns c = refl
+
+pub short-time-spec : {M : Type 1} → statement M
+short-time-spec = tie.close (tie.spec returns)

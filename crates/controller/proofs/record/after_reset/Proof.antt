@@ -1,0 +1,17 @@
+-- `controller::record::after_reset` meets its contract: at each return what led there says which case of
+-- `resetRecord` holds.
+-- Assumes nothing.
+use Rattle.controller.specs.Record.{resetRecord}
+use borrow.Author.Needs.{needs}
+use Rattle.controller.proofs.record.after_reset.Statement.{statement}
+use Rattle.controller.proofs.record.after_reset.Tie as tie
+
+reset-time-requires : tie.Need-reset-time-requires
+reset-time-requires c κs = search needs
+
+returns : tie.Need-returns
+unfolding resetRecord
+returns c = simp (c .reset-time .ensures)
+
+pub after-reset-spec : {M : Type 1} → statement M
+after-reset-spec = tie.close (tie.spec reset-time-requires returns)

@@ -1,0 +1,14 @@
+-- `controller::record::reset_time` meets its contract: at each return what led there says which case of `resetTime`
+-- holds.
+-- Assumes nothing.
+use Rattle.controller.specs.Record.{resetTime}
+use mathlib.Core.Path.{refl}
+use Rattle.controller.proofs.record.reset_time.Statement.{statement}
+use Rattle.controller.proofs.record.reset_time.Tie as tie
+
+returns : tie.Need-returns
+unfolding resetTime
+returns c = refl
+
+pub reset-time-spec : {M : Type 1} → statement M
+reset-time-spec = tie.close (tie.spec returns)

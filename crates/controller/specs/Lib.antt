@@ -1,0 +1,11 @@
+pub mod Cells
+pub mod Record
+pub mod Decision
+pub mod Instruction
+pub mod Execute
+pub mod Halves
+pub mod Bus
+pub mod Runs
+pub mod Rows
+pub mod Theorems
+pub mod Cases

@@ -1,0 +1,257 @@
+// What a complete transfer does.
+ghost use mathlib.Core.Bool.{cond, true};
+ghost use mathlib.Core.Path.{_≡_};
+ghost use Prim.Native.Nat.{_<_};
+ghost use lib.ListN.{length};
+ghost use Rattle.controller.specs.Cells.{Within, onCell};
+ghost use Rattle.controller.specs.Execute.{addressed, carried, changed, completed, cursorAt, executed, homed, loaded, longTime, readOut, shifted, shortTime, statusOf, unloaded, written};
+ghost use Rattle.controller.specs.Record.{Ready, withControl, withCounter, withEntry, withFunction};
+use crate::cells::Counter;
+use crate::cells::Named;
+use crate::cells::address;
+use crate::cells::cell_of_acg;
+use crate::cells::cell_of_add;
+use crate::cells::load;
+use crate::cells::place;
+use crate::cells::step;
+use crate::cells::wrap;
+use crate::decision::Answer;
+use crate::decision::Decision;
+use crate::decision::Effect;
+use crate::decision::finish;
+use crate::decision::refuse;
+use crate::instruction::Instruction;
+use crate::instruction::decode;
+use crate::record::Control;
+use crate::record::Entry;
+use crate::record::Function;
+use crate::record::Record;
+
+// A complete transfer, with the byte that it writes or returns.
+pub enum Transfer {
+    Instruct(u8),
+    Write(u8),
+    Status(u8),
+    Read(u8),
+}
+
+// Microseconds at 250 kHz (document 002): Clear and Home take the long time, all else that takes time the short one.
+fn short_time() -> u32
+    ensures { λ r. ⌜ r ≡ shortTime ⌝ }
+{
+    40
+}
+
+fn long_time() -> u32
+    ensures { λ r. ⌜ r ≡ longTime ⌝ }
+{
+    1_640
+}
+
+// The counter on this cell and the register loaded from it, fresh.
+fn load_at(memory: &[u8], counter: Counter, rec: Record) -> Record
+    requires { ⌜ (length (now memory) ≡ 144) × (onCell counter ≡ true) ⌝ }
+    ensures { λ r. ⌜ r ≡ loaded (now (memory .entry)) counter rec ⌝ }
+{
+    let mut next = rec;
+    next.reg = load(memory, counter);
+    next.fresh = true;
+    Record { counter, ..next }
+}
+
+// The counter on this cell and the register stale.
+fn unload_at(counter: Counter, rec: Record) -> Record
+    ensures { λ r. ⌜ r ≡ unloaded counter rec ⌝ }
+{
+    let mut next = rec;
+    next.fresh = false;
+    Record { counter, ..next }
+}
+
+fn home(rec: Record) -> Record
+    ensures { λ r. ⌜ r ≡ homed rec ⌝ }
+{
+    let mut next = rec;
+    next.shift = 0;
+    unload_at(Counter::Display(0), next)
+}
+
+fn move_to(counter: Counter, rec: Record) -> Record
+    ensures { λ r. ⌜ r ≡ withCounter counter rec ⌝ }
+{
+    Record { counter, ..rec }
+}
+
+// In display memory a cursor move loads the register; in pattern memory it leaves it stale.
+fn cursor_to(memory: &[u8], counter: Counter, rec: Record) -> Record
+    requires { ⌜ (length (now memory) ≡ 144) × (onCell counter ≡ true) ⌝ }
+    ensures { λ r. ⌜ r ≡ cursorAt (now (memory .entry)) counter rec ⌝ }
+{
+    match counter {
+        Counter::Display(_) => load_at(memory, counter, rec),
+        Counter::Pattern(_) => unload_at(counter, rec),
+    }
+}
+
+fn shift(up: bool, rec: Record) -> Record
+    requires { ⌜ rec .shift < 80 ⌝ }
+    ensures { λ r. ⌜ r ≡ shifted up rec ⌝ }
+{
+    let mut next = rec;
+    next.shift = wrap(80, up, rec.shift);
+    next
+}
+
+fn set_entry(entry: Entry, rec: Record) -> Record
+    ensures { λ r. ⌜ r ≡ withEntry entry rec ⌝ }
+{
+    let mut next = rec;
+    next.entry = entry;
+    next
+}
+
+fn set_control(control: Control, rec: Record) -> Record
+    ensures { λ r. ⌜ r ≡ withControl control rec ⌝ }
+{
+    let mut next = rec;
+    next.control = control;
+    next
+}
+
+fn set_function(wide: bool, function: Function, rec: Record) -> Record
+    ensures { λ r. ⌜ r ≡ withFunction wide function rec ⌝ }
+{
+    let mut next = rec;
+    next.wide = wide;
+    next.function = function;
+    next
+}
+
+// Done in the short time.
+fn change(rec: Record) -> Decision
+    ensures { λ r. ⌜ r ≡ changed rec ⌝ }
+{
+    finish(short_time(), Effect::Keep, rec)
+}
+
+// A display address: its cell, or refusal 6.
+fn go_to(memory: &[u8], named: Named, rec: Record) -> Decision
+    requires { ⌜ (length (now memory) ≡ 144) × Within named ⌝ }
+    ensures { λ r. ⌜ r ≡ addressed (now (memory .entry)) named rec ⌝ }
+{
+    match named {
+        Named::Cell(cell) => change(load_at(memory, Counter::Display(cell), rec)),
+        Named::Outside => refuse(Answer::NoCell, rec),
+    }
+}
+
+fn execute(memory: &[u8], instruction: Instruction, rec: Record) -> Decision
+    requires { ⌜ Ready rec (now memory) ⌝ }
+    ensures { λ r. ⌜ r ≡ executed (now (memory .entry)) instruction rec ⌝ }
+{
+    let counter = rec.counter;
+    match instruction {
+        Instruction::Nothing => change(rec),
+        Instruction::Clear => finish(long_time(), Effect::Blank, home(rec)),
+        Instruction::Home => finish(long_time(), Effect::Keep, home(rec)),
+        Instruction::SetEntry(entry) => change(set_entry(entry, rec)),
+        Instruction::SetControl(control) => change(set_control(control, rec)),
+        Instruction::MoveCursor(right) => change(cursor_to(memory, step(right, counter), rec)),
+        Instruction::ShiftDisplay(right) => change(shift(!right, rec)),
+        Instruction::SetFunction(wide, function) => change(set_function(wide, function, rec)),
+        Instruction::PatternAddress(acg) => change(load_at(
+            memory,
+            Counter::Pattern(cell_of_acg(acg)),
+            rec,
+        )),
+        Instruction::DisplayAddress(add) => go_to(memory, cell_of_add(rec.function.n, add), rec),
+    }
+}
+
+// The display follows a data write: in display memory, with S=1.
+fn carry(counter: Counter, rec: Record) -> Record
+    requires { ⌜ rec .shift < 80 ⌝ }
+    ensures { λ r. ⌜ r ≡ carried counter rec ⌝ }
+{
+    match counter {
+        Counter::Display(_) => {
+            if rec.entry.s {
+                return shift(rec.entry.id, rec);
+            }
+            rec
+        }
+        Counter::Pattern(_) => rec,
+    }
+}
+
+// A data write: the byte into the counter's cell, and into the register, stale.
+fn write(byte: u8, rec: Record) -> Decision
+    requires { ⌜ (onCell (rec .counter) ≡ true) × (rec .shift < 80) ⌝ }
+    ensures { λ r. ⌜ r ≡ written byte rec ⌝ }
+{
+    let counter = rec.counter;
+    let mut next = carry(counter, rec);
+    next.reg = byte;
+    next.fresh = false;
+    finish(
+        short_time(),
+        Effect::Store(place(counter), byte),
+        move_to(step(rec.entry.id, counter), next),
+    )
+}
+
+fn read_answer(fresh: bool) -> Answer
+    ensures { λ r. ⌜ r ≡ cond fresh Answer.Done Answer.StaleRead ⌝ }
+{
+    if fresh {
+        return Answer::Done;
+    }
+    Answer::StaleRead
+}
+
+// A data read of this byte: the counter moves on, and the register is loaded from its new cell. It never shifts.
+fn read(memory: &[u8], byte: u8, rec: Record) -> Decision
+    requires { ⌜ Ready rec (now memory) ⌝ }
+    ensures { λ r. ⌜ r ≡ readOut (now (memory .entry)) byte rec ⌝ }
+{
+    let counter = rec.counter;
+    let mut next = load_at(memory, step(rec.entry.id, counter), rec);
+    next.busy = short_time();
+    Decision {
+        answer: read_answer(rec.fresh),
+        byte,
+        rec: next,
+        effect: Effect::Keep,
+    }
+}
+
+// Bit 7 while busy, and the counter's address.
+pub fn status(rec: Record) -> u8
+    requires { ⌜ onCell (rec .counter) ≡ true ⌝ }
+    ensures { λ r. ⌜ r ≡ statusOf rec ⌝ }
+{
+    let counter = rec.counter;
+    let at = address(rec.function.n, counter);
+    if 0 < rec.busy {
+        return 0x80 + at;
+    }
+    at
+}
+
+// What a complete transfer does. A status read takes no time and alters nothing.
+pub fn complete(memory: &[u8], transfer: Transfer, rec: Record) -> Decision
+    requires { ⌜ Ready rec (now memory) ⌝ }
+    ensures { λ r. ⌜ r ≡ completed (now (memory .entry)) transfer rec ⌝ }
+{
+    match transfer {
+        Transfer::Instruct(byte) => execute(memory, decode(byte), rec),
+        Transfer::Write(byte) => write(byte, rec),
+        Transfer::Status(byte) => Decision {
+            answer: Answer::Done,
+            byte,
+            rec,
+            effect: Effect::Keep,
+        },
+        Transfer::Read(byte) => read(memory, byte, rec),
+    }
+}

@@ -1,0 +1,78 @@
+// The instruction table of document 002.
+ghost use mathlib.Core.Path.{_≡_};
+ghost use Prim.Native.Nat.{_<_};
+ghost use Rattle.controller.specs.Instruction.{bit, decoded};
+use crate::cells::Acg;
+use crate::cells::Add;
+use crate::record::Control;
+use crate::record::Entry;
+use crate::record::Function;
+
+// A row of the table, with what its lower bits say. `MoveCursor` and `ShiftDisplay` hold R/L: true is right.
+pub enum Instruction {
+    Nothing,
+    Clear,
+    Home,
+    SetEntry(Entry),
+    SetControl(Control),
+    MoveCursor(bool),
+    ShiftDisplay(bool),
+    SetFunction(bool, Function),
+    PatternAddress(Acg),
+    DisplayAddress(Add),
+}
+
+// Whether the bit that is worth this much is set.
+fn has(worth: u8, byte: u8) -> bool
+    requires { ⌜ 0 < worth ⌝ }
+    ensures { λ r. ⌜ r ≡ bit worth byte ⌝ }
+{
+    byte / worth % 2 == 1
+}
+
+// The instruction by its highest set bit, from the table's last row to its first.
+pub fn decode(byte: u8) -> Instruction
+    ensures { λ r. ⌜ r ≡ decoded byte ⌝ }
+{
+    if 0x80 <= byte {
+        return Instruction::DisplayAddress(Add(byte - 0x80));
+    }
+    if 0x40 <= byte {
+        return Instruction::PatternAddress(Acg(byte - 0x40));
+    }
+    if 0x20 <= byte {
+        return Instruction::SetFunction(
+            has(0x10, byte),
+            Function {
+                n: has(0x08, byte),
+                f: has(0x04, byte),
+            },
+        );
+    }
+    if 0x10 <= byte {
+        if has(0x08, byte) {
+            return Instruction::ShiftDisplay(has(0x04, byte));
+        }
+        return Instruction::MoveCursor(has(0x04, byte));
+    }
+    if 0x08 <= byte {
+        return Instruction::SetControl(Control {
+            d: has(0x04, byte),
+            c: has(0x02, byte),
+            b: has(0x01, byte),
+        });
+    }
+    if 0x04 <= byte {
+        return Instruction::SetEntry(Entry {
+            id: has(0x02, byte),
+            s: has(0x01, byte),
+        });
+    }
+    if 0x02 <= byte {
+        return Instruction::Home;
+    }
+    if 0x01 <= byte {
+        return Instruction::Clear;
+    }
+    Instruction::Nothing
+}
