@@ -5,3 +5,4 @@ pub mod Instruction
 pub mod Kept
 pub mod Taken
 pub mod Memory
+pub mod Completed

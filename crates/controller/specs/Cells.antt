@@ -37,6 +37,11 @@ unfoldable pub stepped : Bool → Counter → Counter
 stepped up (Display cell) = Display (wrapped 80 up cell)
 stepped up (Pattern cell) = Pattern (wrapped 64 up cell)
 
+-- A line's length, L: 80 cells with N=0, 40 with N=1.
+unfoldable pub lineLength : Bool → ℕ
+lineLength false = 80
+lineLength true = 40
+
 -- ADD to its cell. N=0: 00h to 4Fh are cells 0 to 79. N=1: 00h to 27h are cells 0 to 39, 40h to 67h are cells 40 to 79.
 unfoldable pub cellOfAdd : Bool → Add → Named
 cellOfAdd false add = cond (ltb (add .0) 0x50) (Cell (add .0)) Outside

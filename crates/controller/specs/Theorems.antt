@@ -15,8 +15,9 @@ use Rattle.controller.specs.declared.decision.Outcome.{Outcome}
 use Rattle.controller.specs.declared.«record».Half.the-variants.{Empty}
 use Rattle.controller.specs.declared.«record».Record.{Record}
 use Rattle.controller.specs.Bus.{whole, decided, resetDecided, Meets}
-use Rattle.controller.specs.Cells.{wrapped, cellOfAdd, addOfCell}
+use Rattle.controller.specs.Cells.{wrapped, lineLength, cellOfAdd, addOfCell}
 use Rattle.controller.specs.Decision.{numberOf, isRefusal, refused, Fits}
+use Rattle.controller.specs.Execute.{shortTime, longTime}
 use Rattle.controller.specs.Record.{sound, waited, withHalf}
 use Rattle.controller.specs.Rows.{Given, transferRows, resetRows}
 
@@ -85,8 +86,18 @@ OneReset =
     (rec : Record) (mem : List ℕ) (a b : Outcome) (x y : List ℕ)
     → Meets (resetDecided rec mem) mem a x → Meets (resetDecided rec mem) mem b y → (a ≡ b) × (x ≡ y)
 
+-- Of the functions that return one value: two values that are both what was promised are one.
 abbrev pub OneSoundness : Type 0
 OneSoundness = (rec : Record) (a b : Bool) → a ≡ sound rec → b ≡ sound rec → a ≡ b
 
 abbrev pub OneNumber : Type 0
 OneNumber = (answer : Answer) (a b : ℕ) → a ≡ numberOf answer → b ≡ numberOf answer → a ≡ b
+
+abbrev pub OneLineLength : Type 0
+OneLineLength = (n : Bool) (a b : ℕ) → a ≡ lineLength n → b ≡ lineLength n → a ≡ b
+
+abbrev pub OneShortTime : Type 0
+OneShortTime = (a b : ℕ) → a ≡ shortTime → b ≡ shortTime → a ≡ b
+
+abbrev pub OneLongTime : Type 0
+OneLongTime = (a b : ℕ) → a ≡ longTime → b ≡ longTime → a ≡ b

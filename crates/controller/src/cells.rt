@@ -4,7 +4,7 @@ ghost use mathlib.Core.Bool.{true};
 ghost use mathlib.Core.Path.{_≡_};
 ghost use Prim.Native.Nat.{_<_, _≤_};
 ghost use lib.ListN.{length};
-ghost use Rattle.controller.specs.Cells.{acgOfCell, addOfCell, addressOf, byteAt, cellOfAcg, cellOfAdd, onCell, placeOf, stepped, wrapped};
+ghost use Rattle.controller.specs.Cells.{acgOfCell, addOfCell, addressOf, byteAt, cellOfAcg, cellOfAdd, lineLength, onCell, placeOf, stepped, wrapped};
 
 // A display address, as the bus carries it. It is never read as a pattern address.
 pub struct Add(pub u8);
@@ -72,6 +72,16 @@ pub fn step(up: bool, counter: Counter) -> Counter
         Counter::Display(cell) => Counter::Display(wrap(80, up, cell)),
         Counter::Pattern(cell) => Counter::Pattern(wrap(64, up, cell)),
     }
+}
+
+// A line's length, L.
+pub fn line_length(n: bool) -> u8
+    ensures { λ r. ⌜ r ≡ lineLength n ⌝ }
+{
+    if n {
+        return 40;
+    }
+    80
 }
 
 // The one place where a display address becomes a cell.

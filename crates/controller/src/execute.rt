@@ -36,13 +36,13 @@ pub enum Transfer {
 }
 
 // Microseconds at 250 kHz (document 002): Clear and Home take the long time, all else that takes time the short one.
-fn short_time() -> u32
+pub fn short_time() -> u32
     ensures { λ r. ⌜ r ≡ shortTime ⌝ }
 {
     40
 }
 
-fn long_time() -> u32
+pub fn long_time() -> u32
     ensures { λ r. ⌜ r ≡ longTime ⌝ }
 {
     1_640

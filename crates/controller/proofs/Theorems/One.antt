@@ -1,7 +1,7 @@
 -- No second answer fits: what two equations with one side in common leave of two answers.
 -- Assumes nothing.
 use mathlib.Core.Path.{_≡_, sym, _∙_}
-use Rattle.controller.specs.Theorems.{OneTransfer, OneReset, OneSoundness, OneNumber}
+use Rattle.controller.specs.Theorems.{OneTransfer, OneReset, OneSoundness, OneNumber, OneLineLength, OneShortTime, OneLongTime}
 
 -- two things that are both what was promised are one
 pub one : {A : Type 0} (promised a b : A) → a ≡ promised → b ≡ promised → a ≡ b
@@ -19,3 +19,12 @@ one-soundness rec a b is also = one _ a b is also
 
 pub one-number : OneNumber
 one-number answer a b is also = one _ a b is also
+
+pub one-line-length : OneLineLength
+one-line-length n a b is also = one _ a b is also
+
+pub one-short-time : OneShortTime
+one-short-time a b is also = one _ a b is also
+
+pub one-long-time : OneLongTime
+one-long-time a b is also = one _ a b is also

@@ -1,0 +1,191 @@
+-- The opening: from whatever state, four single transfers lead to width 4 with no half waiting.
+-- Assumes nothing.
+use mathlib.Core.Bool.{Bool, true, false, cond, false≢true}
+use mathlib.Core.List.{List, [], _∷_, _++_}
+use mathlib.Core.Logic.{_⊎_, inl, inr, ⊎-elim}
+use mathlib.Core.Path.{_≡_, refl, sym, ap, subst, _∙_}
+use Prim.Native.Nat.{ℕ, _+_, _*_, _/_, _≤_, _<_, zero-le}
+use native.Mathlib.Nat.{le-refl, le-trans}
+use native.Mathlib.Omega.{arith}
+use lib.Dec.{eqb}
+use Rattle.controller.proofs.Laws.Completed.{short-long, completed-half, completed-busy, instruct-keeps}
+use Rattle.controller.proofs.Laws.Kept.{wide-none}
+use Rattle.controller.proofs.Laws.Record.{sound-half, sound-busy}
+use Rattle.controller.specs.Bus.{badTransfer}
+use Rattle.controller.specs.Cells.{placeOf}
+use Rattle.controller.specs.Execute.{shortTime, longTime, completed, executed, written, readOut}
+use Rattle.controller.specs.Halves.{accepted, narrow, begun, firstHalf, secondHalf}
+use Rattle.controller.specs.Instruction.{decoded, bit}
+use Rattle.controller.specs.Record.{resetTime, withBusy, withHalf}
+use Rattle.controller.specs.Runs.{State, Sent, after}
+use Rattle.controller.specs.declared.decision.Decision.{Decision}
+use Rattle.controller.specs.declared.decision.Effect.{Effect}
+use Rattle.controller.specs.declared.decision.Effect.the-variants.{Keep, Store}
+use Rattle.controller.specs.declared.execute.Transfer.{Transfer}
+use Rattle.controller.specs.declared.execute.Transfer.the-variants.{Instruct, Write, Status, Read}
+use Rattle.controller.specs.declared.«record».Half.{Half}
+use Rattle.controller.specs.declared.«record».Half.the-variants.{Empty, InstructionWrite, DataWrite, StatusRead, DataRead}
+use Rattle.controller.specs.declared.«record».Record.{Record}
+use Rattle.planner.proofs.Demand.Safe.{Scene, Inv, Safe}
+use Rattle.planner.proofs.Demand.Step.{comesTo, Mild, Harmless, step}
+use Rattle.planner.specs.Demand.{halfWrite}
+use Rattle.planner.specs.Plan.{single, opening}
+
+-- no data write waits in such a half
+no-write : (half : Half) → halfWrite half ≡ false → (high : ℕ) → half ≡ DataWrite high → ⊥
+unfolding halfWrite
+no-write half quiet high is = false≢true (sym quiet ∙ ap halfWrite is)
+
+-- a decision that keeps the memory and leaves no data write waiting does no harm
+pub quiet : (k : Scene) (d : Decision) → d .effect ≡ Keep → halfWrite (d .rec .half) ≡ false → Harmless k d
+quiet k d keep none =
+    record {
+      effect = subst (Mild k) (sym keep) Mild.keeps;
+      half = λ high is _. absurd (no-write (d .rec .half) none high is);
+    }
+
+pub empty-quiet : (half : Half) → half ≡ Empty → halfWrite half ≡ false
+unfolding halfWrite
+empty-quiet half is = ap halfWrite is
+
+-- what is waiting after the first transfer, and how long it is busy
+abbrev Found : Record → Type 0
+Found rec = (rec .busy ≤ longTime) × ((rec .half ≡ Empty) ⊎ ((rec .wide ≡ false) × (rec .half ≡ InstructionWrite 3)))
+
+-- after the second
+abbrev Halfway : Record → Type 0
+Halfway rec =
+    (rec .busy ≤ shortTime) × (((rec .wide ≡ true) × (rec .half ≡ Empty)) ⊎ ((rec .wide ≡ false) × (rec .half ≡ InstructionWrite 3)))
+
+-- after the third
+abbrev Wide : Record → Type 0
+Wide rec = (rec .busy ≤ shortTime) × (rec .wide ≡ true) × (rec .half ≡ Empty)
+
+-- after the fourth, and after each command: width 4, no half, busy for at most this time
+pub record Steady (time : ℕ) (rec : Record) : Type 0 where
+  pub busy : rec .busy ≤ time
+  pub narrow : rec .wide ≡ false
+  pub half : rec .half ≡ Empty
+
+-- a second half ends with no half waiting and busy for at most the long time
+ends : (mem : List ℕ) (t : Transfer) (rec : Record) → Found (completed mem t (withHalf Empty (withBusy 0 rec)) .rec)
+ends mem t rec =
+    (completed-busy mem t (withHalf Empty (withBusy 0 rec)) zero-le, inl (completed-half mem t (withHalf Empty (withBusy 0 rec))))
+
+ends-quiet : (mem : List ℕ) (t : Transfer) (rec : Record) → halfWrite (completed mem t (withHalf Empty (withBusy 0 rec)) .rec .half) ≡ false
+ends-quiet mem t rec = empty-quiet _ (completed-half mem t (withHalf Empty (withBusy 0 rec)))
+
+-- 30h, the first time
+first-30 : (k : Scene) (s : State) (wait : ℕ) → Inv k s → Harmless k (comesTo s (single 0x30 wait)) × Found (comesTo s (single 0x30 wait) .rec)
+unfolding comesTo accepted narrow begun firstHalf secondHalf completed executed decoded bit written readOut halfWrite
+first-30 k s wait inv = go (s .rec .wide) (s .rec .half) refl refl
+  where
+    rec : Record
+    rec = withBusy 0 (s .rec)
+
+    P : Decision → Type 0
+    P d = Harmless k d × Found (d .rec)
+
+    go : (wide : Bool) (half : Half) → s .rec .wide ≡ wide → s .rec .half ≡ half
+        → P (cond wide (completed (s .mem) (begun 0 0x30 rec) rec) (narrow (s .mem) 0 0x30 half rec))
+    go true half w h =
+        let none : s .rec .half ≡ Empty = wide-none (s .rec .wide) (s .rec .busy) (s .rec .half) w (sound-half (s .rec) (inv .sound)) in
+        (quiet k _ refl (empty-quiet _ none), (short-long, inl none))
+    go false Empty w h = (quiet k _ refl refl, (zero-le, inr (w, refl)))
+    go false (InstructionWrite high) w h = (
+      quiet k _ (instruct-keeps (s .mem) (high * 16 + 3) _ (λ e. omega arith)) (ends-quiet (s .mem) (Instruct (high * 16 + 3)) (s .rec)),
+      ends (s .mem) (Instruct (high * 16 + 3)) (s .rec),
+    )
+    go false (DataWrite high) w h = (
+      record {
+        effect = Mild.stores (placeOf (s .rec .counter)) (high * 16 + 3) (inv .half high h);
+        half = λ more is _. absurd (no-write _ (ends-quiet (s .mem) (Write (high * 16 + 3)) (s .rec)) more is);
+      },
+      ends (s .mem) (Write (high * 16 + 3)) (s .rec),
+    )
+    go false (StatusRead taken) w h = (quiet k _ refl refl, ends (s .mem) (Status taken) (s .rec))
+    go false (DataRead taken) w h = (quiet k _ refl refl, ends (s .mem) (Read taken) (s .rec))
+
+-- 30h, the second time
+second-30 : (k : Scene) (s : State) (wait : ℕ) → Found (s .rec) → Harmless k (comesTo s (single 0x30 wait)) × Halfway (comesTo s (single 0x30 wait) .rec)
+unfolding comesTo accepted narrow begun firstHalf secondHalf completed executed decoded bit halfWrite
+second-30 k s wait found = ⊎-elim (λ none. go (s .rec .wide) (s .rec .half) refl refl none) (λ three. after-3 (three .0) (three .1)) (found .1)
+  where
+    rec : Record
+    rec = withBusy 0 (s .rec)
+
+    P : Decision → Type 0
+    P d = Harmless k d × Halfway (d .rec)
+
+    go : (wide : Bool) (half : Half) → s .rec .wide ≡ wide → s .rec .half ≡ half → s .rec .half ≡ Empty
+        → P (cond wide (completed (s .mem) (begun 0 0x30 rec) rec) (narrow (s .mem) 0 0x30 half rec))
+    go true half w h none = (quiet k _ refl (empty-quiet _ none), (le-refl shortTime, inl (refl, none)))
+    go false half w h none = subst (λ (x : Half). P (narrow (s .mem) 0 0x30 x rec)) (sym (sym h ∙ none)) (quiet k _ refl refl, (zero-le, inr (w, refl)))
+
+    after-3 : s .rec .wide ≡ false → s .rec .half ≡ InstructionWrite 3 → P (accepted (s .mem) 0 0x30 rec)
+    after-3 w h =
+        subst (λ (x : Bool). P (cond x (completed (s .mem) (begun 0 0x30 rec) rec) (narrow (s .mem) 0 0x30 (s .rec .half) rec))) (sym w)
+        (subst (λ (x : Half). P (narrow (s .mem) 0 0x30 x rec)) (sym h) (quiet k _ refl refl, (le-refl shortTime, inl (refl, refl))))
+
+-- 30h, the third time
+third-30 : (k : Scene) (s : State) (wait : ℕ) → Halfway (s .rec) → Harmless k (comesTo s (single 0x30 wait)) × Wide (comesTo s (single 0x30 wait) .rec)
+unfolding comesTo accepted narrow begun secondHalf completed executed decoded bit halfWrite
+third-30 k s wait halfway = ⊎-elim (λ at. wide (at .0) (at .1)) (λ at. after-3 (at .0) (at .1)) (halfway .1)
+  where
+    rec : Record
+    rec = withBusy 0 (s .rec)
+
+    P : Decision → Type 0
+    P d = Harmless k d × Wide (d .rec)
+
+    wide : s .rec .wide ≡ true → s .rec .half ≡ Empty → P (accepted (s .mem) 0 0x30 rec)
+    wide w none =
+        subst (λ (x : Bool). P (cond x (completed (s .mem) (begun 0 0x30 rec) rec) (narrow (s .mem) 0 0x30 (s .rec .half) rec))) (sym w)
+        (quiet k _ refl (empty-quiet _ none), (le-refl shortTime, refl, none))
+
+    after-3 : s .rec .wide ≡ false → s .rec .half ≡ InstructionWrite 3 → P (accepted (s .mem) 0 0x30 rec)
+    after-3 w h =
+        subst (λ (x : Bool). P (cond x (completed (s .mem) (begun 0 0x30 rec) rec) (narrow (s .mem) 0 0x30 (s .rec .half) rec))) (sym w)
+        (subst (λ (x : Half). P (narrow (s .mem) 0 0x30 x rec)) (sym h) (quiet k _ refl refl, (le-refl shortTime, refl, refl)))
+
+-- 20h
+then-20 : (k : Scene) (s : State) (wait : ℕ) → Wide (s .rec) → Harmless k (comesTo s (single 0x20 wait)) × Steady shortTime (comesTo s (single 0x20 wait) .rec)
+unfolding comesTo accepted begun completed executed decoded bit
+then-20 k s wait at =
+    let rec : Record = withBusy 0 (s .rec) in
+    let P : Decision → Type 0 = λ d. Harmless k d × Steady shortTime (d .rec) in
+    subst (λ (x : Bool). P (cond x (completed (s .mem) (begun 0 0x20 rec) rec) (narrow (s .mem) 0 0x20 (s .rec .half) rec))) (sym (at .1))
+    (quiet k _ refl (empty-quiet _ (at .2)), record { busy = le-refl shortTime; narrow = refl; half = at .2 })
+
+reset-covered : resetTime ≤ 15000
+unfolding resetTime
+reset-covered = omega arith
+
+long-covered : longTime ≤ 4100
+unfolding longTime
+long-covered = omega arith
+
+pub short-covered : shortTime ≤ 100
+unfolding shortTime
+short-covered = omega arith
+
+-- the opening, and then the rest from width 4 with no half waiting
+pub opening-safe : (k : Scene) (Q : State → Type 0) (s : State) (rest : List Sent) → Inv k s
+    → ((s′ : State) → Inv k s′ → Steady shortTime (s′ .rec) → Safe k Q s′ rest) → Safe k Q s (opening ++ rest)
+unfolding badTransfer
+opening-safe k Q s rest inv then =
+    let one = first-30 k s 15000 inv in
+    step k Q s (single 0x30 15000) _ inv refl (omega arith) (le-trans (sound-busy (s .rec) (inv .sound)) reset-covered) (one .0)
+    (λ inv₁.
+    let s₁ : State = after s (comesTo s (single 0x30 15000)) in
+    let two = second-30 k s₁ 4100 (one .1) in
+    step k Q s₁ (single 0x30 4100) _ inv₁ refl (omega arith) (le-trans (one .1 .0) long-covered) (two .0)
+    (λ inv₂.
+    let s₂ : State = after s₁ (comesTo s₁ (single 0x30 4100)) in
+    let three = third-30 k s₂ 100 (two .1) in
+    step k Q s₂ (single 0x30 100) _ inv₂ refl (omega arith) (le-trans (two .1 .0) short-covered) (three .0)
+    (λ inv₃.
+    let s₃ : State = after s₂ (comesTo s₂ (single 0x30 100)) in
+    let four = then-20 k s₃ 100 (three .1) in
+    step k Q s₃ (single 0x20 100) rest inv₃ refl (omega arith) (le-trans (three .1 .0) short-covered) (four .0)
+    (λ inv₄. then (after s₃ (comesTo s₃ (single 0x20 100))) inv₄ (four .1)))))

@@ -1,0 +1,97 @@
+-- What holds between any two transfers, and a list of transfers that is safe to send: whatever longer waits are taken, no
+-- transfer is answered 4 and that holds after each.
+-- Assumes nothing.
+use mathlib.Core.Bool.{Bool, true, false, _&&_}
+use mathlib.Core.List.{List, [], _∷_, _++_}
+use mathlib.Core.Path.{_≡_, refl, sym, ap, _∙_}
+use Prim.Native.Nat.{ℕ, _+_, _*_, _≤_, _<_}
+use lib.ListN.{length, getD}
+use Rattle.controller.specs.Cells.{placeOf}
+use Rattle.controller.specs.Record.{sound}
+use Rattle.controller.specs.Runs.{State, Sent, Told, decidedOf, after, toldOf, ran, heard}
+use Rattle.controller.specs.declared.«record».Half.the-variants.{DataWrite}
+use Rattle.planner.specs.Demand.{AsAsked, Whole, Begun, EachBegun, joined, excepted, NoneBusy, Bytes, MayHold}
+
+-- what is fixed before the first run: the controller as found, the marks, and the values, which are bytes
+pub record Scene : Type 0 where
+  pub start : State
+  pub marks : List ℕ
+  pub values : List ℕ
+  pub bytes : Bytes values
+
+abbrev pub Holds : Scene → ℕ → ℕ → Type 0
+Holds k place byte = MayHold (k .marks) (k .values) (k .start) place byte
+
+-- between any two transfers: a sound record, a whole memory, each cell that is not excepted with a byte that it may hold,
+-- and a waiting data write that 3h would complete to such a byte
+pub record Inv (k : Scene) (s : State) : Type 0 where
+  pub sound : sound (s .rec) ≡ true
+  pub whole : length (s .mem) ≡ 144
+  pub cells : (place : ℕ) → place < 144 → excepted (k .start .rec) place ≡ false → Holds k place (getD (s .mem) place 0)
+  pub half : (high : ℕ) → s .rec .half ≡ DataWrite high → excepted (k .start .rec) (placeOf (s .rec .counter)) ≡ false
+      → Holds k (placeOf (s .rec .counter)) (high * 16 + 3)
+
+-- the answer is not 4, and the invariant holds afterwards
+pub record Fine (k : Scene) (s : State) (t : Sent) : Type 0 where
+  pub free : toldOf (decidedOf s t) .answer ≡ 4 → ⊥
+  pub inv : Inv k (after s (decidedOf s t))
+
+-- these transfers may be sent from here, each waiting at least as long as asked, and then Q holds
+pub Safe : Scene → (State → Type 0) → State → List Sent → Type 0
+Safe k Q s [] = Q s
+Safe k Q s (asked ∷ plan) = (t : Sent) → AsAsked asked t → Fine k s t × Safe k Q (after s (decidedOf s t)) plan
+
+pub safe-end : (k : Scene) (Q : State → Type 0) (s : State) → Q s → Safe k Q s []
+unfolding Safe
+safe-end k Q s q = q
+
+pub safe-more : (k : Scene) (Q : State → Type 0) (s : State) (asked : Sent) (plan : List Sent)
+    → ((t : Sent) → AsAsked asked t → Fine k s t × Safe k Q (after s (decidedOf s t)) plan) → Safe k Q s (asked ∷ plan)
+unfolding Safe
+safe-more k Q s asked plan step = step
+
+-- a run that is let finish
+pub whole-run : (k : Scene) (Q : State → Type 0) (plan ts : List Sent) (s : State) → Safe k Q s plan → Whole plan ts
+    → Q (ran s ts) × NoneBusy (heard s ts)
+unfolding Safe Whole ran heard NoneBusy
+whole-run k Q [] [] s safe w = (safe, tt)
+whole-run k Q [] (t ∷ ts) s safe w = absurd w
+whole-run k Q (asked ∷ plan) [] s safe w = absurd w
+whole-run k Q (asked ∷ plan) (t ∷ ts) s safe w =
+    let one = safe t (w .0) in
+    let rest = whole-run k Q plan ts (after s (decidedOf s t)) (one .1) (w .1) in
+    (rest .0, (one .0 .free, rest .1))
+
+-- a run that is stopped anywhere
+pub cut-run : (k : Scene) (Q : State → Type 0) (plan ts : List Sent) (s : State) → Inv k s → Safe k Q s plan → Begun plan ts
+    → Inv k (ran s ts) × NoneBusy (heard s ts)
+unfolding Safe Begun ran heard NoneBusy
+cut-run k Q [] [] s inv safe b = (inv, tt)
+cut-run k Q [] (t ∷ ts) s inv safe b = absurd b
+cut-run k Q (asked ∷ plan) [] s inv safe b = (inv, tt)
+cut-run k Q (asked ∷ plan) (t ∷ ts) s inv safe b =
+    let one = safe t (b .0) in
+    let rest = cut-run k Q plan ts (after s (decidedOf s t)) (one .0 .inv) (one .1) (b .1) in
+    (rest .0, (one .0 .free, rest .1))
+
+-- one run after another
+pub ran-append : (s : State) (a b : List Sent) → ran s (a ++ b) ≡ ran (ran s a) b
+unfolding ran
+ran-append s [] b = refl
+ran-append s (t ∷ a) b = ran-append (after s (decidedOf s t)) a b
+
+pub free-append : (s : State) (a b : List Sent) → NoneBusy (heard s a) → NoneBusy (heard (ran s a) b) → NoneBusy (heard s (a ++ b))
+unfolding ran heard NoneBusy
+free-append s [] b first second = second
+free-append s (t ∷ a) b first second = (first .0, free-append (after s (decidedOf s t)) a b (first .1) second)
+
+-- any number of cut runs and a whole one: it is enough that the plan is safe from every state of the invariant
+pub all-runs : (k : Scene) (Q : State → Type 0) (plan : List Sent) → ((s : State) → Inv k s → Safe k Q s plan)
+    → (cut : List (List Sent)) (last : List Sent) (s : State) → Inv k s → EachBegun plan cut → Whole plan last
+    → Q (ran s (joined cut last)) × NoneBusy (heard s (joined cut last))
+unfolding EachBegun joined
+all-runs k Q plan safe [] last s inv b w = whole-run k Q plan last s (safe s inv) w
+all-runs k Q plan safe (run ∷ runs) last s inv b w =
+    let one = cut-run k Q plan run s inv (safe s inv) (b .0) in
+    let rest = all-runs k Q plan safe runs last (ran s run) (one .0) (b .1) w in
+    (rw ran-append (rest .0), free-append s run (joined runs last) (one .1) (rest .1))

@@ -1,0 +1,4 @@
+pub mod Written
+pub mod Count
+pub mod Wish
+pub mod Reply

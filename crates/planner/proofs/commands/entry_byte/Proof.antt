@@ -1,0 +1,28 @@
+-- `planner::commands::entry_byte` meets its contract: two bits above 04h leave a byte.
+-- Assumes nothing.
+use Rattle.planner.proofs.Laws.Wish.{worth-small}
+use native.Mathlib.Omega.{arith}
+use borrow.Author.Needs.{needs}
+use Rattle.planner.proofs.commands.entry_byte.Statement.{statement}
+use Rattle.planner.proofs.commands.entry_byte.Tie as tie
+
+worth-of-requires : tie.Need-worth-of-requires
+worth-of-requires c κs = search needs
+
+add-result : tie.Need-add-result
+add-result c = omega (arith, c .worth-of .ensures, worth-small 0x02 (c .before .args .entry .id))
+
+worth-of-requires-2 : tie.Need-worth-of-requires-2
+worth-of-requires-2 c κs = search needs
+
+add-result-2 : tie.Need-add-result-2
+add-result-2 c =
+    let at = c .before .before .args .entry in
+    omega (arith, c .before .worth-of .ensures, c .worth-of2 .ensures, worth-small 0x02 (at .id), worth-small 0x01 (at .s))
+
+returns : tie.Need-returns
+returns c = search needs
+
+pub entry-byte-spec : {M : Type 1} → statement M
+entry-byte-spec =
+    tie.close (tie.spec worth-of-requires add-result worth-of-requires-2 add-result-2 returns)

@@ -1,0 +1,31 @@
+-- `planner::commands::open` meets its contract: four records, one behind the other.
+-- Assumes nothing.
+use Rattle.planner.specs.Plan.{encoded}
+use mathlib.Core.Path.{refl}
+use borrow.Author.Needs.{needs}
+use Rattle.planner.proofs.commands.open.Statement.{statement}
+use Rattle.planner.proofs.commands.open.Tie as tie
+
+put-requires : tie.Need-put-requires
+put-requires c κs = search needs
+
+put-requires-2 : tie.Need-put-requires-2
+put-requires-2 c κs = search needs
+
+put-requires-3 : tie.Need-put-requires-3
+put-requires-3 c κs = search needs
+
+put-requires-4 : tie.Need-put-requires-4
+put-requires-4 c κs = search needs
+
+same-length : tie.Need-same-length
+same-length c = search needs
+
+returns : tie.Need-returns
+unfolding encoded
+returns c = simp (c .before .before .put4 .ensures, c .before .before .before .before .before .before .put3 .ensures, c .before .before .before .before .before .before .before .before .before .before .put2 .ensures, c .before .before .before .before .before .before .before .before .before .before .before .before .before .before .put .ensures) (refl, refl)
+
+pub open-spec : {M : Type 1} → statement M
+open-spec =
+    tie.close
+    (tie.spec put-requires put-requires-2 put-requires-3 put-requires-4 same-length returns)

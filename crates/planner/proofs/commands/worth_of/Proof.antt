@@ -1,0 +1,16 @@
+-- `planner::commands::worth_of` meets its contract: at each return what led there says which case of `worth` holds.
+-- Assumes nothing.
+use Rattle.planner.specs.Plan.{worth}
+use Rattle.planner.proofs.commands.worth_of.Statement.{statement}
+use Rattle.planner.proofs.commands.worth_of.Tie as tie
+
+returns : tie.Need-returns
+unfolding worth
+returns c = simp (c .if1 .taken)
+
+returns-2 : tie.Need-returns-2
+unfolding worth
+returns-2 c = simp (c .if1 .left)
+
+pub worth-of-spec : {M : Type 1} → statement M
+worth-of-spec = tie.close (tie.spec returns returns-2)

@@ -1,0 +1,115 @@
+-- Demand 3, clause by clause: any accepted wish, any sound controller, cut runs as often as you like and a whole one.
+-- Assumes nothing.
+use mathlib.Core.Bool.{Bool, true, false, _&&_}
+use mathlib.Core.List.{List, [], _∷_, _++_}
+use mathlib.Core.Logic.{_⊎_}
+use mathlib.Core.Path.{_≡_}
+use Prim.Native.Nat.{ℕ, _+_, _≤_, _<_}
+use lib.Dec.{eqb}
+use lib.ListN.{length, getD}
+use Rattle.controller.specs.Cells.{placeOf}
+use Rattle.controller.specs.Execute.{shortTime}
+use Rattle.controller.specs.Halves.{highHalf}
+use Rattle.controller.specs.Record.{sound}
+use Rattle.controller.specs.Runs.{State, Sent, Told, ran, heard}
+use Rattle.controller.specs.declared.cells.Counter.the-variants.{Display}
+use Rattle.controller.specs.declared.«record».Half.{Half}
+use Rattle.controller.specs.declared.«record».Half.the-variants.{Empty, InstructionWrite, DataWrite, StatusRead, DataRead}
+use Rattle.controller.specs.declared.«record».Record.{Record}
+use Rattle.planner.specs.declared.wish.Wish.{Wish}
+use Rattle.planner.specs.Plan.{planOf}
+use Rattle.planner.specs.Wish.{isWish, marked}
+
+-- A transfer sent as planned: the same kind and byte, the wait at least as long as asked.
+pub record AsAsked (asked sent : Sent) : Type 0 where
+  pub kind : sent .kind ≡ asked .kind
+  pub byte : sent .byte ≡ asked .byte
+  pub wait : asked .wait ≤ sent .wait
+
+-- The run is let finish.
+unfoldable pub Whole : List Sent → List Sent → Type 0
+Whole [] [] = Unit {0}
+Whole [] (t ∷ ts) = ⊥
+Whole (asked ∷ plan) [] = ⊥
+Whole (asked ∷ plan) (t ∷ ts) = AsAsked asked t × Whole plan ts
+
+-- The run is stopped after any transfer, or before the first.
+unfoldable pub Begun : List Sent → List Sent → Type 0
+Begun [] [] = Unit {0}
+Begun [] (t ∷ ts) = ⊥
+Begun (asked ∷ plan) [] = Unit {0}
+Begun (asked ∷ plan) (t ∷ ts) = AsAsked asked t × Begun plan ts
+
+-- The same plan is begun as often as you like.
+unfoldable pub EachBegun : List Sent → List (List Sent) → Type 0
+EachBegun plan [] = Unit {0}
+EachBegun plan (run ∷ runs) = Begun plan run × EachBegun plan runs
+
+-- Nothing is sent between the runs.
+unfoldable pub joined : List (List Sent) → List Sent → List Sent
+joined [] last = last
+joined (run ∷ runs) last = run ++ joined runs last
+
+-- A data write is half sent and still waiting.
+unfoldable pub halfWrite : Half → Bool
+halfWrite Empty = false
+halfWrite (InstructionWrite high) = false
+halfWrite (DataWrite high) = true
+halfWrite (StatusRead taken) = false
+halfWrite (DataRead taken) = false
+
+-- The cell that it was meant for is excepted.
+unfoldable pub excepted : Record → ℕ → Bool
+excepted rec place = halfWrite (rec .half) && eqb place (placeOf (rec .counter))
+
+-- The record that stands as wished: every field of it.
+abbrev pub wishedRecord : Wish → List ℕ → Record
+wishedRecord wish mem =
+    record {
+      wide = false;
+      function = wish .function;
+      control = wish .control;
+      entry = wish .entry;
+      shift = wish .shift;
+      counter = Display (wish .cursor);
+      reg = getD mem (wish .cursor) 0;
+      fresh = true;
+      busy = shortTime;
+      half = Empty;
+    }
+
+-- The panel stands as wished: its record, and each cell that the wish names.
+pub record Stands (wish : Wish) (marks values : List ℕ) (s : State) : Type 0 where
+  pub rec : s .rec ≡ wishedRecord wish (s .mem)
+  pub cells : (place : ℕ) → place < 144 → marked marks place ≡ true → getD (s .mem) place 0 ≡ getD values place 0
+
+-- No transfer was refused as busy.
+unfoldable pub NoneBusy : List Told → Type 0
+NoneBusy [] = Unit {0}
+NoneBusy (told ∷ more) = (told .answer ≡ 4 → ⊥) × NoneBusy more
+
+-- Every cell the wish does not name holds what it held before the first run, save the excepted one.
+abbrev pub Spared : List ℕ → State → List ℕ → Type 0
+Spared marks start mem =
+    (place : ℕ) → place < 144 → marked marks place ≡ false → excepted (start .rec) place ≡ false
+    → getD mem place 0 ≡ getD (start .mem) place 0
+
+-- The values are bytes.
+abbrev pub Bytes : List ℕ → Type 0
+Bytes values = (place : ℕ) → getD values place 0 < 256
+
+-- Demand 3.
+abbrev pub Demand3 : Type 0
+Demand3 =
+    (wish : Wish) (marks values : List ℕ) (start : State) (cut : List (List Sent)) (last : List Sent)
+    → isWish wish marks ≡ true → Bytes values → sound (start .rec) ≡ true → length (start .mem) ≡ 144
+    → EachBegun (planOf wish marks values) cut → Whole (planOf wish marks values) last
+    → Stands wish marks values (ran start (joined cut last))
+    × NoneBusy (heard start (joined cut last))
+    × Spared marks start (ran start (joined cut last) .mem)
+
+-- On the way a cell may hold its first byte, and if named its wished byte or the wished high half with 3h.
+abbrev pub MayHold : List ℕ → List ℕ → State → ℕ → ℕ → Type 0
+MayHold marks values start place byte =
+    (byte ≡ getD (start .mem) place 0)
+    ⊎ ((marked marks place ≡ true) × ((byte ≡ getD values place 0) ⊎ (byte ≡ highHalf (getD values place 0) + 3)))

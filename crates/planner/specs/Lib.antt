@@ -1,0 +1,5 @@
+pub mod Wish
+pub mod Plan
+pub mod Bus
+pub mod Pen
+pub mod Demand
