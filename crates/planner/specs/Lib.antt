@@ -3,3 +3,4 @@ pub mod Plan
 pub mod Bus
 pub mod Pen
 pub mod Demand
+pub mod Theorems

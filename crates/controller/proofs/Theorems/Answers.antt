@@ -1,9 +1,8 @@
 -- Each number is given exactly where its row applies: the answer is the number of the first row that does.
 -- Assumes nothing.
-use mathlib.Core.Bool.{Bool, true, false, cond, not, _&&_, true≢false, false≢true}
-use mathlib.Core.List.{List, [], _∷_}
-use mathlib.Core.Logic.{_⊎_, inl, inr, _↔_}
-use mathlib.Core.Path.{_≡_, refl, sym, ap, _∙_}
+use mathlib.Core.Bool.{Bool, true, false, cond, not, _&&_}
+use mathlib.Core.List.{List}
+use mathlib.Core.Path.{_≡_, refl, _∙_}
 use Prim.Native.Nat.{ℕ, _-_}
 use lib.Dec.{leb, eqb}
 use Rattle.controller.proofs.Laws.Choice.{cond-map}
@@ -18,6 +17,7 @@ use Rattle.controller.specs.declared.instruction.Instruction.the-variant
 use Rattle.controller.specs.declared.decision.Answer.the-variants.{Done, NotWhole, StaleRead}
 use Rattle.controller.specs.declared.decision.Effect.the-variants.{Blank}
 use Rattle.controller.proofs.Laws.Instruction.{Plain, decoded-address, decoded-plain}
+use Rattle.controller.proofs.Laws.Rows.{first, given}
 use Rattle.controller.specs.declared.«record».Half.{Half}
 use Rattle.controller.specs.declared.«record».Half.the-variants.{Empty, InstructionWrite, DataWrite, StatusRead, DataRead}
 use Rattle.controller.specs.declared.«record».Record.{Record}
@@ -28,38 +28,8 @@ use Rattle.controller.specs.Execute.{completed, executed, addressed, wri
 use Rattle.controller.specs.Halves.{accepted, narrow, begun, firstHalf, secondHalf, crossed}
 use Rattle.controller.specs.Instruction.{decoded}
 use Rattle.controller.specs.Record.{resetRecord, sound, waited, withHalf}
-use Rattle.controller.specs.Rows.{Row, Given, secondIs, completeIs, isFirst, isOutside, lacksCell, readsStale, otherKind, isCrossed, transferRows, resetRows}
+use Rattle.controller.specs.Rows.{secondIs, completeIs, isFirst, isOutside, lacksCell, readsStale, otherKind, isCrossed, transferRows, resetRows}
 use Rattle.controller.specs.Theorems.{TransferAnswers, ResetAnswers}
-
--- the number of the first row that applies
-first : List Row → ℕ
-first [] = 0
-first (row ∷ rows) = cond (row .applies) (row .number) (first rows)
-
--- one row
-row-to : (t : Bool) (m n rest : ℕ) (G : Type 0) → cond t m rest ≡ n → (rest ≡ n → G) → ((t ≡ true) × (m ≡ n)) ⊎ ((t ≡ false) × G)
-row-to true m n rest G e later = inl (refl, e)
-row-to false m n rest G e later = inr (refl, later e)
-
-row-from : (t : Bool) (m n rest : ℕ) (G : Type 0) → ((t ≡ true) × (m ≡ n)) ⊎ ((t ≡ false) × G) → (G → rest ≡ n) → cond t m rest ≡ n
-row-from true m n rest G (inl here) later = here .1
-row-from true m n rest G (inr there) later = absurd (true≢false (there .0))
-row-from false m n rest G (inl here) later = absurd (false≢true (here .0))
-row-from false m n rest G (inr there) later = later (there .1)
-
-given-to : (n : ℕ) (rows : List Row) → first rows ≡ n → Given n rows
-unfolding first Given
-given-to n [] e = sym e
-given-to n (row ∷ rows) e = row-to (row .applies) (row .number) n (first rows) (Given n rows) e (given-to n rows)
-
-given-from : (n : ℕ) (rows : List Row) → Given n rows → first rows ≡ n
-unfolding first Given
-given-from n [] e = sym e
-given-from n (row ∷ rows) e = row-from (row .applies) (row .number) n (first rows) (Given n rows) e (given-from n rows)
-
--- an answer that is the first row's number is given exactly there
-given : (answer : ℕ) (rows : List Row) → answer ≡ first rows → (n : ℕ) → (answer ≡ n) ↔ Given n rows
-given answer rows is n = (λ e. given-to n rows (sym is ∙ e), λ g. is ∙ given-from n rows g)
 
 abbrev numbered : Decision → ℕ
 numbered d = numberOf (d .answer)

@@ -157,13 +157,27 @@ then-20 k s wait at =
     subst (λ (x : Bool). P (cond x (completed (s .mem) (begun 0 0x20 rec) rec) (narrow (s .mem) 0 0x20 (s .rec .half) rec))) (sym (at .1))
     (quiet k _ refl (empty-quiet _ (at .2)), record { busy = le-refl shortTime; narrow = refl; half = at .2 })
 
-reset-covered : resetTime ≤ 15000
-unfolding resetTime
-reset-covered = omega arith
-
-long-covered : longTime ≤ 4100
-unfolding longTime
-long-covered = omega arith
+-- four single transfers, each waiting as long as the controller can be busy, and then the rest
+opened-safe : (k : Scene) (Q : State → Type 0) (s : State) (a b c d : ℕ) (rest : List Sent) → resetTime ≤ a → longTime ≤ b → shortTime ≤ c → shortTime ≤ d
+    → Inv k s → ((s′ : State) → Inv k s′ → Steady shortTime (s′ .rec) → Safe k Q s′ rest)
+    → Safe k Q s (single 0x30 a ∷ single 0x30 b ∷ single 0x30 c ∷ single 0x20 d ∷ rest)
+unfolding badTransfer
+opened-safe k Q s a b c d rest over-a over-b over-c over-d inv then =
+    let one = first-30 k s a inv in
+    step k Q s (single 0x30 a) _ inv refl (omega arith) (le-trans (sound-busy (s .rec) (inv .sound)) over-a) (one .0)
+    (λ inv₁.
+    let s₁ : State = after s (comesTo s (single 0x30 a)) in
+    let two = second-30 k s₁ b (one .1) in
+    step k Q s₁ (single 0x30 b) _ inv₁ refl (omega arith) (le-trans (one .1 .0) over-b) (two .0)
+    (λ inv₂.
+    let s₂ : State = after s₁ (comesTo s₁ (single 0x30 b)) in
+    let three = third-30 k s₂ c (two .1) in
+    step k Q s₂ (single 0x30 c) _ inv₂ refl (omega arith) (le-trans (two .1 .0) over-c) (three .0)
+    (λ inv₃.
+    let s₃ : State = after s₂ (comesTo s₂ (single 0x30 c)) in
+    let four = then-20 k s₃ d (three .1) in
+    step k Q s₃ (single 0x20 d) rest inv₃ refl (omega arith) (le-trans (three .1 .0) over-d) (four .0)
+    (λ inv₄. then (after s₃ (comesTo s₃ (single 0x20 d))) inv₄ (four .1)))))
 
 pub short-covered : shortTime ≤ 100
 unfolding shortTime
@@ -172,20 +186,5 @@ short-covered = omega arith
 -- the opening, and then the rest from width 4 with no half waiting
 pub opening-safe : (k : Scene) (Q : State → Type 0) (s : State) (rest : List Sent) → Inv k s
     → ((s′ : State) → Inv k s′ → Steady shortTime (s′ .rec) → Safe k Q s′ rest) → Safe k Q s (opening ++ rest)
-unfolding badTransfer
-opening-safe k Q s rest inv then =
-    let one = first-30 k s 15000 inv in
-    step k Q s (single 0x30 15000) _ inv refl (omega arith) (le-trans (sound-busy (s .rec) (inv .sound)) reset-covered) (one .0)
-    (λ inv₁.
-    let s₁ : State = after s (comesTo s (single 0x30 15000)) in
-    let two = second-30 k s₁ 4100 (one .1) in
-    step k Q s₁ (single 0x30 4100) _ inv₁ refl (omega arith) (le-trans (one .1 .0) long-covered) (two .0)
-    (λ inv₂.
-    let s₂ : State = after s₁ (comesTo s₁ (single 0x30 4100)) in
-    let three = third-30 k s₂ 100 (two .1) in
-    step k Q s₂ (single 0x30 100) _ inv₂ refl (omega arith) (le-trans (two .1 .0) short-covered) (three .0)
-    (λ inv₃.
-    let s₃ : State = after s₂ (comesTo s₂ (single 0x30 100)) in
-    let four = then-20 k s₃ 100 (three .1) in
-    step k Q s₃ (single 0x20 100) rest inv₃ refl (omega arith) (le-trans (three .1 .0) short-covered) (four .0)
-    (λ inv₄. then (after s₃ (comesTo s₃ (single 0x20 100))) inv₄ (four .1)))))
+unfolding resetTime longTime shortTime
+opening-safe k Q s rest inv then = opened-safe k Q s _ _ _ _ rest (omega arith) (omega arith) (omega arith) (omega arith) inv then

@@ -1,0 +1,122 @@
+-- The theorems of the plan: its length, P12, the exception, and the bytes read back.
+-- Assumes nothing.
+use mathlib.Core.Bool.{Bool, true, false, not, _&&_}
+use mathlib.Core.List.{List, [], _∷_, _++_}
+use mathlib.Core.Path.{_≡_, refl, sym, ap, _∙_}
+use Prim.Native.Nat.{ℕ, _+_, _*_, _/_, _%_, _≤_, _<_}
+use native.Mathlib.Nat.{div-div-eq-div-mul, mod-add-div, mod-eq-of-lt}
+use native.Mathlib.Omega.{arith}
+use lib.Dec.{eqb, ltb}
+use borrow.Author.Tests.{not-false}
+use Rattle.controller.proofs.Laws.Choice.{cond-elim}
+use lib.ListN.{length, getD, drop, replicate}
+use Rattle.controller.specs.Bus.{whole, badTransfer, mustWait, noHalf, decided, ordered}
+use Rattle.controller.specs.Cells.{placeOf, byteAt, onCell, wrapped, stepped, lineLength, cellOfAdd, addOfCell, cellOfAcg, addressOf}
+use Rattle.controller.specs.Decision.{numberOf, performed, blanked}
+use Rattle.controller.specs.Execute.{shortTime, longTime, cursorAt, addressed, executed, carried, written, readOut, statusOf, completed}
+use Rattle.controller.specs.Halves.{begun, firstHalf, crossed, secondHalf, narrow, accepted}
+use Rattle.controller.specs.Instruction.{bit, decoded}
+use Rattle.controller.specs.Record.{resetTime, resetRecord, halfSound, sound, withBusy, withHalf, withFunction}
+use Rattle.controller.specs.Runs.{State, Sent, ran}
+use Rattle.controller.specs.declared.decision.Answer.{Answer}
+use Rattle.controller.specs.declared.decision.Answer.the-variants.{Done}
+use Rattle.controller.specs.declared.«record».Half.the-variants.{DataWrite}
+use Rattle.planner.proofs.Laws.Count.{plan-bound}
+use Rattle.planner.specs.declared.bus.Planned.{Planned}
+use Rattle.planner.specs.declared.wish.Wish.{Wish}
+use Rattle.planner.specs.Bus.{Reply, wanted, replyTo, laidOut}
+use Rattle.planner.specs.Plan.{Command, worth, addressByte, cell, cellsBelow, commands, timeOf, inHalves, planOf, encoded}
+use Rattle.planner.specs.Theorems.{AtMost468, Reaches468, P12, ExceptionNeeded, BoardSendsPlan, all, readBack}
+use Rattle.planner.specs.Wish.{marksFit, isWish, marked, follows}
+
+pub at-most-468 : AtMost468
+at-most-468 = plan-bound
+
+pub reaches-468 : Reaches468
+unfolding isWish marksFit lineLength worth addressByte addOfCell cell cellsBelow commands timeOf inHalves planOf marked follows shortTime longTime
+reaches-468 = (refl, refl)
+
+pub p12 : P12
+unfolding worth addressByte addOfCell cell cellsBelow commands timeOf inHalves planOf marked follows shortTime longTime
+p12 values = refl
+
+-- a controller that waits for the second half of a data write to display cell 0
+waiting : State
+waiting = record { rec = withHalf (DataWrite 4) (withBusy 0 (withFunction false (record { n = false; f = false }) resetRecord)); mem = all 0x20 }
+
+pub exception-needed : ExceptionNeeded
+unfolding waiting worth addressByte addOfCell cell cellsBelow commands timeOf inHalves planOf marked follows shortTime longTime ran decided ordered whole sound halfSound onCell resetTime resetRecord badTransfer mustWait noHalf accepted begun narrow firstHalf secondHalf crossed numberOf completed executed decoded bit written carried stepped wrapped placeOf byteAt readOut statusOf addressOf cellOfAdd cellOfAcg addressed cursorAt performed blanked
+exception-needed = (waiting, refl, refl, refl, refl)
+
+-- every wait fits its four bytes
+SmallWaits : List Sent → Type 0
+SmallWaits [] = Unit {0}
+SmallWaits (t ∷ ts) = (t .wait < 4294967296) × SmallWaits ts
+
+time-small : (c : Command) → timeOf c < 4294967296
+unfolding timeOf shortTime longTime
+time-small c = cond-elim (λ (t : ℕ). t < 4294967296) (eqb (c .kind) 0 && eqb (c .byte) 0x02) 1640 40 (λ _. omega arith) (λ _. omega arith)
+
+halves-small : (before : ℕ) (cs : List Command) → before < 4294967296 → SmallWaits (inHalves before cs)
+unfolding inHalves SmallWaits
+halves-small before [] small = tt
+halves-small before (c ∷ cs) small = (small, (omega arith, halves-small (timeOf c) cs (time-small c)))
+
+plan-small : (wish : Wish) (marks values : List ℕ) → SmallWaits (planOf wish marks values)
+unfolding planOf SmallWaits
+plan-small wish marks values = (omega arith, (omega arith, (omega arith, (omega arith, halves-small 100 (commands wish marks values) (omega arith)))))
+
+-- a number by its bytes, one after the other
+bytes-of : (w a b c d q r : ℕ) → a + 256 * q ≡ w → b + 256 * r ≡ q → c + 256 * d ≡ r → a + 256 * b + 65536 * c + 16777216 * d ≡ w
+bytes-of w a b c d q r first second third = omega arith
+
+-- four bytes read back
+four-bytes : (wait : ℕ) → wait < 4294967296
+    → wait % 256 + 256 * (wait / 256 % 256) + 65536 * (wait / 65536 % 256) + 16777216 * (wait / 16777216 % 256) ≡ wait
+four-bytes wait small =
+    let second : wait / 65536 ≡ wait / 256 / 256 = sym (div-div-eq-div-mul wait 256 256) in
+    let third : wait / 16777216 ≡ wait / 65536 / 256 = sym (div-div-eq-div-mul wait 65536 256) in
+    let sum : wait % 256 + 256 * (wait / 256 % 256) + 65536 * (wait / 256 / 256 % 256) + 16777216 * (wait / 256 / 256 / 256) ≡ wait =
+    bytes-of wait _ _ _ _ (wait / 256) (wait / 256 / 256) (mod-add-div wait 256) (mod-add-div (wait / 256) 256) (mod-add-div (wait / 256 / 256) 256) in
+    let top : wait / 256 / 256 / 256 % 256 ≡ wait / 256 / 256 / 256 = mod-eq-of-lt (top-small _ _ wait sum small) in
+    rw (third, second, top) sum
+  where
+    top-small : (rest d w : ℕ) → rest + 16777216 * d ≡ w → w < 4294967296 → d < 256
+    top-small rest d w sum below = omega arith
+
+-- records read back
+read-back : (ts : List Sent) (rest : List ℕ) → SmallWaits ts → readBack (length ts) (encoded ts ++ rest) ≡ ts
+unfolding readBack encoded SmallWaits
+read-back [] rest small = refl
+read-back (t ∷ ts) rest small =
+    ap (λ (w : ℕ). record { kind = t .kind; byte = t .byte; wait = w } ∷ readBack (length ts) (encoded ts ++ rest)) (four-bytes (t .wait) (small .0))
+    ∙ ap (λ (l : List Sent). t ∷ l) (read-back ts rest (small .1))
+
+-- an answer with another number than 0 is not Done
+other-done : {A : Type 0} (answer : Answer) → answer ≡ Done → (numberOf answer ≡ 0 → ⊥) → A
+unfolding numberOf
+other-done answer e other = absurd (other (ap numberOf e))
+
+-- an accepted call
+accepted-reply : (wish : Wish) (marks values out : List ℕ) → replyTo wish marks values out .answer ≡ Done
+    → (isWish wish marks ≡ true) × (replyTo wish marks values out .plan ≡ planOf wish marks values)
+unfolding replyTo numberOf
+accepted-reply wish marks values out =
+    let P : Reply → Type 0 = λ r. r .answer ≡ Done → (isWish wish marks ≡ true) × (r .plan ≡ planOf wish marks values) in
+    cond-elim P (not (whole marks)) _ _ (λ _ e. other-done _ e (λ z. omega arith))
+    (λ _. cond-elim P (not (whole values)) _ _ (λ _ e. other-done _ e (λ z. omega arith))
+    (λ _. cond-elim P (not (isWish wish marks)) _ _ (λ _ e. other-done _ e (λ z. omega arith))
+    (λ is. cond-elim P (ltb (length out) wanted) _ _ (λ _ e. other-done _ e (λ z. omega arith))
+    (λ _ _. (not-false _ is, refl)))))
+
+pub board-sends-plan : BoardSendsPlan
+unfolding laidOut
+board-sends-plan wish marks values out returned after bytes meets told =
+    let reply = replyTo wish marks values out in
+    let accepted = accepted-reply wish marks values out (sym (ap (λ (p : Planned). p .answer) (meets .told)) ∙ told) in
+    let plan = planOf wish marks values in (
+      accepted .0,
+      ap (λ (n : ℕ). readBack n after) (ap (λ (p : Planned). p .count) (meets .told) ∙ ap length (accepted .1))
+          ∙ ap (readBack (length plan)) (meets .buffer ∙ ap (λ (p : List Sent). laidOut p out) (accepted .1))
+          ∙ read-back plan (drop (length (encoded plan)) out) (plan-small wish marks values),
+    )

@@ -1,0 +1,134 @@
+-- What is proved of the definitions beside demand 3: each theorem is a type here, and its proof stands in proofs/Theorems.
+-- Assumes nothing.
+use mathlib.Core.Bool.{Bool, true, false, not, _&&_}
+use mathlib.Core.List.{List, [], _∷_}
+use mathlib.Core.Logic.{_⊎_, _↔_}
+use mathlib.Core.Path.{_≡_}
+use Prim.Native.Nat.{ℕ, zero, suc, _+_, _*_, _≤_, _<_}
+use lib.Dec.{ltb}
+use lib.ListN.{length, getD, drop, replicate}
+use Rattle.controller.specs.Bus.{whole}
+use Rattle.controller.specs.Cells.{lineLength}
+use Rattle.controller.specs.Decision.{numberOf}
+use Rattle.controller.specs.Record.{resetRecord, sound, withFunction, withHalf}
+use Rattle.controller.specs.Rows.{Row, Given}
+use Rattle.controller.specs.Runs.{State, Sent, ran}
+use Rattle.controller.specs.declared.decision.Answer.the-variants.{Done}
+use Rattle.controller.specs.declared.«record».Half.the-variants.{DataWrite}
+use Rattle.planner.specs.declared.bus.Planned.{Planned}
+use Rattle.planner.specs.declared.wish.Wish.{Wish}
+use Rattle.planner.specs.Bus.{replyTo, wanted, turnedDown, Meets}
+use Rattle.planner.specs.Demand.{Bytes}
+use Rattle.planner.specs.Plan.{planOf}
+use Rattle.planner.specs.Wish.{isWish, marked}
+
+-- The rows of plan in their order.
+unfoldable pub planRows : Wish → List ℕ → List ℕ → List ℕ → List Row
+planRows wish marks values out =
+    record { number = 2; applies = not (whole marks && whole values) }
+    ∷ record { number = 13; applies = not (isWish wish marks) }
+    ∷ record { number = 11; applies = ltb (length out) wanted }
+    ∷ []
+
+-- Each number is given exactly where its row applies and none before it in the order.
+abbrev pub PlanAnswers : Type 0
+PlanAnswers =
+    (wish : Wish) (marks values out : List ℕ) (n : ℕ)
+    → (numberOf (replyTo wish marks values out .answer) ≡ n) ↔ Given n (planRows wish marks values out)
+
+-- Some mark is above 1.
+unfoldable pub MarkAbove : List ℕ → Type 0
+MarkAbove [] = ⊥
+MarkAbove (mark ∷ marks) = (1 < mark) ⊎ MarkAbove marks
+
+-- Not a wish: N=F=1, a shift or cursor out of range, or a mark above 1, and nothing else.
+abbrev pub NotWishes : Type 0
+NotWishes =
+    (wish : Wish) (marks : List ℕ)
+    → (isWish wish marks ≡ false)
+    ↔ (((wish .function .n ≡ true) × (wish .function .f ≡ true))
+    ⊎ ((lineLength (wish .function .n) ≤ wish .shift) ⊎ ((80 ≤ wish .cursor) ⊎ MarkAbove marks)))
+
+-- A refused call plans nothing and leaves the buffer as found.
+abbrev pub PlanRefusals : Type 0
+PlanRefusals =
+    (wish : Wish) (marks values out : List ℕ) (returned : Planned) (after : List ℕ) → Meets (replyTo wish marks values out) out returned after
+    → (numberOf (returned .answer) ≡ 0 → ⊥) → (returned .count ≡ 0) × (after ≡ out)
+
+-- No second answer fits.
+abbrev pub OnePlan : Type 0
+OnePlan =
+    (wish : Wish) (marks values out : List ℕ) (a b : Planned) (x y : List ℕ)
+    → Meets (replyTo wish marks values out) out a x → Meets (replyTo wish marks values out) out b y → (a ≡ b) × (x ≡ y)
+
+-- At most 468 records.
+abbrev pub AtMost468 : Type 0
+AtMost468 = (wish : Wish) (marks values : List ℕ) → isWish wish marks ≡ true → length (planOf wish marks values) ≤ 468
+
+-- The wish of P12: N=D=I/D=1, all else 0.
+abbrev pub plainWish : Wish
+plainWish =
+    record {
+      function = record { n = true; f = false };
+      control = record { d = true; c = false; b = false };
+      entry = record { id = true; s = false };
+      shift = 0;
+      cursor = 0;
+    }
+
+-- A list of 144, all this.
+abbrev pub all : ℕ → List ℕ
+all byte = replicate 144 byte
+
+-- A wish that reaches 468: N=0, shift 79, every cell marked.
+abbrev pub fullWish : Wish
+fullWish =
+    record {
+      function = record { n = false; f = false };
+      control = record { d = true; c = false; b = false };
+      entry = record { id = true; s = false };
+      shift = 79;
+      cursor = 0;
+    }
+
+abbrev pub Reaches468 : Type 0
+Reaches468 = (isWish fullWish (all 1) ≡ true) × (length (planOf fullWish (all 1) (all 0)) ≡ 468)
+
+-- An instruction's half, as it is planned.
+abbrev pub half : ℕ → ℕ → Sent
+half byte wait = record { kind = 0; byte = byte; wait = wait }
+
+-- P12: 18 records, with these instruction bytes and waits.
+abbrev pub P12 : Type 0
+P12 =
+    (values : List ℕ)
+    → planOf plainWish (all 0) values
+    ≡ half 0x30 15000 ∷ half 0x30 4100 ∷ half 0x30 100 ∷ half 0x20 100 ∷ half 0x20 100 ∷ half 0x80 1 ∷ half 0x00 40 ∷ half 0x80 1 ∷ half 0x00 40
+    ∷ half 0x60 1 ∷ half 0x00 40 ∷ half 0x20 1 ∷ half 0x00 1640 ∷ half 0x60 1 ∷ half 0x80 40 ∷ half 0x00 1 ∷ half 0x00 40 ∷ half 0xC0 1 ∷ []
+
+-- The exception of demand 3 is needed: a data write half sent before, and the plan that names no cell alters its cell.
+abbrev pub ExceptionNeeded : Type 0
+ExceptionNeeded =
+    (start : State) × (sound (start .rec) ≡ true) × (length (start .mem) ≡ 144)
+    × (getD (start .mem) 0 0 ≡ 0x20) × (getD (ran start (planOf plainWish (all 0) (all 0)) .mem) 0 0 ≡ 0x43)
+
+-- The record of six bytes at the start of a buffer, read as a transfer: kind, byte, wait little-endian.
+abbrev pub sentAt : List ℕ → Sent
+sentAt bytes =
+    record {
+      kind = getD bytes 0 0;
+      byte = getD bytes 1 0;
+      wait = getD bytes 2 0 + 256 * getD bytes 3 0 + 65536 * getD bytes 4 0 + 16777216 * getD bytes 5 0;
+    }
+
+-- The first records of a buffer, read as transfers.
+unfoldable pub readBack : ℕ → List ℕ → List Sent
+readBack zero bytes = []
+readBack (suc count) bytes = sentAt bytes ∷ readBack count (drop 6 bytes)
+
+-- What the buffer holds after an accepted call, read back as transfers, is the plan of demand 3.
+abbrev pub BoardSendsPlan : Type 0
+BoardSendsPlan =
+    (wish : Wish) (marks values out : List ℕ) (returned : Planned) (after : List ℕ) → Bytes values
+    → Meets (replyTo wish marks values out) out returned after → returned .answer ≡ Done
+    → (isWish wish marks ≡ true) × (readBack (returned .count) after ≡ planOf wish marks values)
