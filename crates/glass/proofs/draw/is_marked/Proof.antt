@@ -1,0 +1,33 @@
+-- `glass::draw::is_marked` meets its contract: at each return what led there says what `marked` is.
+-- Assumes nothing.
+use Rattle.glass.specs.Picture.{marked}
+use borrow.Author.Tests.{eq-eqb, ne-eqb}
+use borrow.Author.Needs.{needs}
+use Rattle.glass.proofs.draw.is_marked.Statement.{statement}
+use Rattle.glass.proofs.draw.is_marked.Tie as tie
+
+add-if2 : tie.Need-add-if2
+add-if2 c = search needs
+
+returns : tie.Need-returns
+unfolding marked
+returns c = simp (eq-eqb _ _ (c .if2 .taken), c .before .if1 .taken)
+
+returns-2 : tie.Need-returns-2
+unfolding marked
+returns-2 c = simp (c .if3 .taken, ne-eqb _ _ (c .before .if2 .left), c .before .before .if1 .taken)
+
+returns-3 : tie.Need-returns-3
+unfolding marked
+returns-3 c = simp (c .if3 .left, ne-eqb _ _ (c .before .if2 .left), c .before .before .if1 .taken)
+
+returns-4 : tie.Need-returns-4
+unfolding marked
+returns-4 c = simp (c .if4 .taken, c .before .if1 .left)
+
+returns-5 : tie.Need-returns-5
+unfolding marked
+returns-5 c = simp (c .if4 .left, c .before .if1 .left)
+
+pub is-marked-spec : {M : Type 1} → statement M
+is-marked-spec = tie.close (tie.spec add-if2 returns returns-2 returns-3 returns-4 returns-5)

@@ -1,0 +1,13 @@
+-- `glass::geometry::rows_of` meets its contract.
+-- Assumes nothing.
+use Rattle.glass.specs.Geometry.{height}
+use mathlib.Core.Path.{refl}
+use Rattle.glass.proofs.geometry.rows_of.Statement.{statement}
+use Rattle.glass.proofs.geometry.rows_of.Tie as tie
+
+returns : tie.Need-returns
+unfolding height
+returns c = refl
+
+pub rows-of-spec : {M : Type 1} → statement M
+rows-of-spec = tie.close (tie.spec returns)

@@ -1,0 +1,5 @@
+pub mod Geometry
+pub mod Font
+pub mod Picture
+pub mod Theorems
+pub mod Cases

@@ -1,0 +1,6 @@
+// What a panel of one or two lines shows of a controller's record and memory, five dots a byte. Document 01, "The dots".
+mod draw;
+mod font;
+mod geometry;
+
+pub use draw::picture;
