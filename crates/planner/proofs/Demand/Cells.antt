@@ -83,8 +83,7 @@ step-at place below inner =
 -- a cell that follows a marked one is not the first of its memory
 follows-inner : (marks : List ℕ) (place : ℕ) → follows marks place ≡ true → place ≡ 80 → ⊥
 unfolding follows
-follows-inner marks place after-one is =
-    eqb-false place 80 (not-true _ (and-left _ _ (and-right (not (eqb place 0)) _ after-one))) is
+follows-inner marks place after-one is = subst (λ (p : ℕ). follows marks p ≡ true → ⊥) (sym is) (λ first. false≢true first) after-one
 
 -- after a cell that is not marked no cell follows
 follows-none : (marks : List ℕ) (place : ℕ) → marked marks place ≡ false → follows marks (suc place) ≡ true → ⊥
