@@ -1,0 +1,4 @@
+pub mod Buffer
+pub mod Digits
+pub mod Steps
+pub mod Lengths
