@@ -2,3 +2,5 @@ pub mod Buffer
 pub mod Digits
 pub mod Steps
 pub mod Lengths
+pub mod Waits
+pub mod Kinds

@@ -62,6 +62,13 @@ decimal-length (suc k) n below =
     let fewer : n / 10 < 10 ^ suc k = omega arith in
     omega (arith, length-split n large, decimal-length k (n / 10) fewer))
 
+-- a number has at least one digit
+pub decimal-some : (n : ℕ) → 1 ≤ length (decimal n)
+decimal-some n =
+    either (ltb n 10)
+    (λ e. let small = ltb-true n 10 e in omega (arith, length-small n small))
+    (λ e. let large = ltb-false n 10 e in omega (arith, length-split n large))
+
 pub field-length : (n end : ℕ) → length (numberField n end) ≡ length (decimal n) + 1
 unfolding numberField
 field-length n end = length-append (decimal n) (end ∷ [])
