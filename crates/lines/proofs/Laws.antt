@@ -1,0 +1,6 @@
+pub mod Buffer
+pub mod Digits
+pub mod Steps
+pub mod Lengths
+pub mod Waits
+pub mod Kinds

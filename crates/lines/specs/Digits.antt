@@ -1,0 +1,40 @@
+-- Numbers as text: hex digits, decimal digits, and the fields that lines and rows are made of (document 01, "Session lines").
+-- Assumes nothing.
+use mathlib.Core.Bool.{Bool, cond, _&&_}
+use mathlib.Core.List.{List, [], _∷_, _++_}
+use Prim.Native.Nat.{ℕ, zero, suc, _+_, _-_, _/_, _%_}
+use lib.Dec.{ltb, leb}
+
+abbrev pub tab : ℕ
+tab = 0x09
+
+abbrev pub newline : ℕ
+newline = 0x0A
+
+-- The digit that is worth this much: `0` to `9`, then `A` to `F`.
+unfoldable pub digit : ℕ → ℕ
+digit worth = cond (ltb worth 10) (0x30 + worth) (0x37 + worth)
+
+-- The byte is one of these two or stands between them.
+abbrev pub between : ℕ → ℕ → ℕ → Bool
+between first last byte = leb first byte && leb byte last
+
+-- What a byte is worth as an upper-case hex digit: `0` to `9` are 0 to 9, `A` to `F` 10 to 15, and any other byte, lower case too, 16.
+unfoldable pub worthOf : ℕ → ℕ
+worthOf byte = cond (between 0x30 0x39 byte) (byte - 0x30) (cond (between 0x41 0x46 byte) (byte - 0x37) 16)
+
+-- The decimal digits of a number without leading zeros. The first argument, above the number, only bounds the recursion.
+unfoldable pub spelled : ℕ → ℕ → List ℕ
+spelled zero number = []
+spelled (suc k) number = cond (ltb number 10) (digit number ∷ []) (spelled k (number / 10) ++ (digit (number % 10) ∷ []))
+
+unfoldable pub decimal : ℕ → List ℕ
+decimal number = spelled (suc number) number
+
+-- A field: a number in decimal, and the tab or newline that ends it.
+unfoldable pub numberField : ℕ → ℕ → List ℕ
+numberField number end = decimal number ++ (end ∷ [])
+
+-- A field: a byte as two upper-case hex digits, and a tab.
+unfoldable pub byteField : ℕ → List ℕ
+byteField byte = digit (byte / 16) ∷ digit (byte % 16) ∷ tab ∷ []

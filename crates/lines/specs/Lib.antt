@@ -1,0 +1,6 @@
+pub mod Digits
+pub mod Line
+pub mod Reading
+pub mod Writing
+pub mod Rows
+pub mod Theorems

@@ -1,0 +1,86 @@
+-- What is proved of lines and of the calls that read and write them: each theorem is a type here, and its proof stands in
+-- proofs/Theorems (document 01, "Session lines", "What each number says").
+-- Assumes nothing.
+use mathlib.Core.Bool.{Bool, false}
+use mathlib.Core.List.{List, [], _∷_, _++_}
+use mathlib.Core.Logic.{_⊎_, _↔_}
+use mathlib.Core.Path.{_≡_}
+use Prim.Native.Nat.{ℕ, _<_, _≤_}
+use lib.Dec.{ltb}
+use lib.ListN.{length, take}
+use Rattle.controller.specs.declared.decision.Answer.the-variants.{Done}
+use Rattle.controller.specs.Bus.{badTransfer}
+use Rattle.controller.specs.Decision.{numberOf}
+use Rattle.controller.specs.Rows.{Row, Given}
+use Rattle.lines.specs.declared.reader.Line.{Line}
+use Rattle.lines.specs.declared.writer.Written.{Written}
+use Rattle.lines.specs.Line.{line, waitLimit}
+use Rattle.lines.specs.Reading.{lineOf, badLine}
+use Rattle.lines.specs.Writing.{Writing, Meets, writing, wanting, lineWriting}
+
+-- A transfer that a line can say: a kind 0 to 3, a byte, 00h for a read, and a wait 0 to 4,294,967,295.
+pub record Sayable (kind byte wait : ℕ) : Type 0 where
+  pub transfer : badTransfer kind byte ≡ false
+  pub is-byte : byte < 256
+  pub is-wait : wait ≤ waitLimit
+
+-- A text starts with the line of a transfer, and any text is after it.
+pub record Starts (text : List ℕ) : Type 0 where
+  pub kind : ℕ
+  pub byte : ℕ
+  pub wait : ℕ
+  pub more : List ℕ
+  pub sayable : Sayable kind byte wait
+  pub stands : text ≡ line kind byte wait ++ more
+
+-- The line of a transfer as it is read.
+abbrev pub readAs : ℕ → ℕ → ℕ → Line
+readAs kind byte wait = record { answer = Done; kind = kind; byte = byte; wait = wait; length = length (line kind byte wait) }
+
+-- What was written reads back as the same transfer, with any text after it.
+abbrev pub WrittenReadsBack : Type 0
+WrittenReadsBack = (kind byte wait : ℕ) (more : List ℕ) → Sayable kind byte wait → lineOf (line kind byte wait ++ more) ≡ readAs kind byte wait
+
+-- A line that was read is written out the same, byte for byte, into any buffer of at least 16 bytes.
+abbrev pub ReadWritesBack : Type 0
+ReadWritesBack =
+    (text out : List ℕ) → lineOf text .answer ≡ Done → 16 ≤ length out
+    → lineWriting (lineOf text .kind) (lineOf text .byte) (lineOf text .wait) out ≡ writing (take (lineOf text .length) text)
+
+-- No line has two readings, and no line is the start of another.
+abbrev pub OneReading : Type 0
+OneReading =
+    (kind byte wait kind′ byte′ wait′ : ℕ) (more more′ : List ℕ) → Sayable kind byte wait → Sayable kind′ byte′ wait′
+    → line kind byte wait ++ more ≡ line kind′ byte′ wait′ ++ more′
+    → (kind ≡ kind′) × (byte ≡ byte′) × (wait ≡ wait′) × (more ≡ more′)
+
+-- The reader: 12, and zeros for all that it returns, exactly where no line stands at the start of the text.
+abbrev pub ReaderAnswers : Type 0
+ReaderAnswers = (text : List ℕ) → (Starts text × (lineOf text .answer ≡ Done)) ⊎ ((Starts text → ⊥) × (lineOf text ≡ badLine))
+
+-- What is read is a transfer that a line can say, and its line has 7 to 16 bytes, all of them in the text.
+abbrev pub ReadIsSayable : Type 0
+ReadIsSayable =
+    (text : List ℕ) → lineOf text .answer ≡ Done
+    → Sayable (lineOf text .kind) (lineOf text .byte) (lineOf text .wait)
+    × (7 ≤ lineOf text .length) × (lineOf text .length ≤ 16) × (lineOf text .length ≤ length text)
+
+-- The rows of the writer: 3, then 11.
+unfoldable pub writerRows : ℕ → ℕ → List ℕ → List Row
+writerRows kind byte out =
+    record { number = 3; applies = badTransfer kind byte } ∷ record { number = 11; applies = ltb (length out) 16 } ∷ []
+
+-- Each number is given exactly where its row applies and none before it in the order.
+abbrev pub WriterAnswers : Type 0
+WriterAnswers = (kind byte wait : ℕ) (out : List ℕ) (n : ℕ) → (numberOf (lineWriting kind byte wait out .answer) ≡ n) ↔ Given n (writerRows kind byte out)
+
+-- A line is at most 16 bytes, so that the buffer that the writer wants takes it.
+abbrev pub LinesFit : Type 0
+LinesFit = (kind byte wait : ℕ) → wait ≤ waitLimit → length (line kind byte wait) ≤ 16
+
+-- No second answer fits: two outcomes that both meet the promise of a writing call are one, and so are the buffers.
+abbrev pub OneWriting : Type 0
+OneWriting = (w : Writing) (out : List ℕ) (a b : Written) (x y : List ℕ) → Meets w out a x → Meets w out b y → (a ≡ b) × (x ≡ y)
+
+abbrev pub OneRead : Type 0
+OneRead = (text : List ℕ) (a b : Line) → a ≡ lineOf text → b ≡ lineOf text → a ≡ b

@@ -1,0 +1,70 @@
+// Digits and letters, each way.
+ghost use mathlib.Core.Path.{_≡_};
+ghost use Prim.Native.Nat.{_<_};
+ghost use Rattle.lines.specs.Digits.{digit, worthOf};
+ghost use Rattle.lines.specs.Line.{kindOf, letterOf};
+
+// The digit that is worth this much, `0` to `9` and `A` to `F`.
+pub fn digit_for(worth: u8) -> u8
+    requires { ⌜ worth < 16 ⌝ }
+    ensures { λ r. ⌜ r ≡ digit worth ⌝ }
+{
+    if worth < 10 {
+        return 0x30 + worth;
+    }
+    0x37 + worth
+}
+
+// What a byte is worth as an upper-case hex digit, and 16 where it is none.
+pub fn worth_of(byte: u8) -> u8
+    ensures { λ r. ⌜ r ≡ worthOf byte ⌝ }
+{
+    if byte < 0x30 {
+        return 16;
+    }
+    if byte <= 0x39 {
+        return byte - 0x30;
+    }
+    if byte < 0x41 {
+        return 16;
+    }
+    if byte <= 0x46 {
+        return byte - 0x37;
+    }
+    16
+}
+
+// The letter of a kind.
+pub fn letter_for(kind: u8) -> u8
+    ensures { λ r. ⌜ r ≡ letterOf kind ⌝ }
+{
+    if kind == 0 {
+        return b'I';
+    }
+    if kind == 1 {
+        return b'D';
+    }
+    if kind == 2 {
+        return b'S';
+    }
+    b'R'
+}
+
+// The kind of a letter, and 4 where it has none.
+pub fn kind_of(letter: u8) -> u8
+    ensures { λ r. ⌜ r ≡ kindOf letter ⌝ }
+{
+    if letter == b'I' {
+        return 0;
+    }
+    if letter == b'D' {
+        return 1;
+    }
+    if letter == b'S' {
+        return 2;
+    }
+    if letter == b'R' {
+        return 3;
+    }
+    4
+}

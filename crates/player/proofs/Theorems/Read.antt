@@ -1,0 +1,72 @@
+-- A session's text is read as the transfers of its lines, and ends with the text or at a bad line.
+-- Assumes nothing.
+use mathlib.Core.Bool.{true, false}
+use mathlib.Core.List.{List, [], _∷_, _++_, append-assoc, append-nil}
+use mathlib.Core.Logic.{_⊎_, inl, inr, ⊎-elim}
+use mathlib.Core.Path.{_≡_, refl, sym, ap, _∙_}
+use Prim.Native.Nat.{ℕ, zero, suc, _+_, _<_, _≤_}
+use native.Mathlib.Omega.{arith}
+use lib.ListN.{length, drop, length-append, length-drop}
+use lib.Seq.{drop-append-seam}
+use Rattle.controller.specs.declared.decision.Answer.{Answer}
+use Rattle.controller.specs.declared.decision.Answer.the-variants.{Done, BadLine}
+use Rattle.controller.specs.Decision.{numberOf}
+use Rattle.controller.specs.Runs.{Sent, heard}
+use Rattle.lines.specs.declared.reader.Line.{Line}
+use Rattle.lines.specs.Digits.{newline, numberField}
+use Rattle.lines.specs.Line.{line}
+use Rattle.lines.specs.Reading.{lineOf}
+use Rattle.lines.proofs.Laws.Digits.{either}
+use Rattle.lines.proofs.Laws.Lengths.{line-length}
+use Rattle.lines.proofs.Theorems.Written.{written-reads-back}
+use Rattle.lines.proofs.Theorems.Read.{reader-answers}
+use Rattle.player.specs.Session.{Session, ending, following, sentOf, isDone, sessionOf}
+use Rattle.player.specs.Report.{rowsFrom, lastRow, rowsOf, start, report}
+use Rattle.player.specs.Theorems.{linesOf, AllSayable, SessionReadsBack, ReportTells, SessionEnds}
+use Rattle.player.proofs.Laws.Session.{line-long, session-none, session-more, session-bad}
+
+is-done : isDone Done ≡ true
+unfolding isDone numberOf
+is-done = refl
+
+pub session-reads-back : SessionReadsBack
+unfolding linesOf AllSayable
+session-reads-back [] more can = refl
+session-reads-back (t ∷ ts) more can =
+    let own = line (t .kind) (t .byte) (t .wait) in
+    let rest = linesOf ts ++ more in
+    let read = written-reads-back (t .kind) (t .byte) (t .wait) rest (can .0) in
+    let some : 0 < length (own ++ rest) = omega (arith, length-append own rest, line-length (t .kind) (t .byte) (t .wait)) in
+    ap sessionOf (append-assoc own (linesOf ts) more)
+    ∙ session-more (own ++ rest) some (ap (λ (l : Line). isDone (l .answer)) read ∙ is-done)
+    ∙ ap (λ (l : Line). following (sentOf l) (sessionOf (drop (l .length) (own ++ rest)))) read
+    ∙ ap (λ (l : List ℕ). following t (sessionOf l)) (drop-append-seam own rest)
+    ∙ ap (following t) (session-reads-back ts more (can .1))
+
+pub report-tells : ReportTells
+unfolding report rowsOf lastRow
+report-tells ts can =
+    let read : sessionOf (linesOf ts) ≡ record { sent = ts; end = Done } =
+    ap sessionOf (sym (append-nil (linesOf ts)))
+    ∙ session-reads-back ts [] can
+    ∙ ap (λ (s : Session). record { sent = ts ++ s .sent; end = s .end }) session-none
+    ∙ ap (λ (l : List Sent). record { sent = l; end = Done }) (append-nil ts) in
+    simp (read, is-done, append-nil)
+
+ends-by : (k : ℕ) (text : List ℕ) → length text ≤ k → (sessionOf text .end ≡ Done) ⊎ (sessionOf text .end ≡ BadLine)
+ends-by zero [] enough = inl (ap (λ (s : Session). s .end) session-none)
+ends-by zero (byte ∷ rest) enough = absurd (omega arith)
+ends-by (suc k) [] enough = inl (ap (λ (s : Session). s .end) session-none)
+ends-by (suc k) (byte ∷ rest) enough =
+    let text = byte ∷ rest in
+    let some : 0 < length text = omega arith in
+    either (isDone (lineOf text .answer))
+    (λ good.
+    let long = line-long text good .0 in
+    rw (session-more text some good) (ends-by k (drop (lineOf text .length) text) (omega (arith, length-drop (lineOf text .length) text))))
+    (λ bad.
+    rw (session-bad text some bad)
+    (⊎-elim (λ d. inl (d .1)) (λ d. inr (ap (λ (l : Line). l .answer) (d .1))) (reader-answers text)))
+
+pub session-ends : SessionEnds
+session-ends text = ends-by (length text) text (omega arith)

@@ -1,0 +1,4 @@
+pub mod Session
+pub mod Report
+pub mod Playing
+pub mod Theorems

@@ -1,0 +1,45 @@
+-- The report of a session: what playing it tells, as text (document 01, "Session lines").
+-- Assumes nothing.
+use mathlib.Core.Bool.{cond}
+use mathlib.Core.List.{List, [], _∷_, _++_}
+use mathlib.Core.Path.{_≡_}
+use Prim.Native.Nat.{ℕ, _+_, _*_}
+use lib.ListN.{length, replicate}
+use Rattle.controller.specs.declared.decision.Answer.{Answer}
+use Rattle.controller.specs.Decision.{numberOf}
+use Rattle.controller.specs.Record.{resetRecord}
+use Rattle.controller.specs.Runs.{State, Sent, Told, heard, ran}
+use Rattle.lines.specs.Rows.{header, row}
+use Rattle.lines.specs.Writing.{Writing, wanting}
+use Rattle.player.specs.Session.{Session, isDone, sessionOf}
+
+-- A row for each transfer, numbered from here on.
+unfoldable pub rowsFrom : ℕ → List Told → List ℕ
+rowsFrom number [] = []
+rowsFrom number (t ∷ ts) = row number (t .answer) (t .byte) (t .busy) ++ rowsFrom (number + 1) ts
+
+-- A bad line prints its number, its answer, byte 00 and the busy as it stands; the end of the text prints nothing.
+unfoldable pub lastRow : Answer → ℕ → ℕ → List ℕ
+lastRow answer number busy = cond (isDone answer) [] (row number (numberOf answer) 0 busy)
+
+-- The rows of a session, played on this controller and numbered from here on.
+unfoldable pub rowsOf : ℕ → State → Session → List ℕ
+rowsOf number state session =
+    rowsFrom number (heard state (session .sent))
+    ++ lastRow (session .end) (number + length (session .sent)) (ran state (session .sent) .rec .busy)
+
+-- A controller after reset, with pattern cells 00h.
+abbrev pub start : State
+start = record { rec = resetRecord; mem = replicate 80 0x20 ++ replicate 64 0x00 }
+
+-- The whole report of a session's text: the header, then the rows, numbered from 1.
+unfoldable pub report : List ℕ → List ℕ
+report text = header ++ rowsOf 1 start (sessionOf text)
+
+-- A buffer of this size always serves: six bytes for each byte of the text, and 62 for the header and a last row.
+abbrev pub reportSize : List ℕ → ℕ
+reportSize text = 6 * length text + 62
+
+-- Playing a session's text: 11 where the buffer is shorter than that, and else the report.
+unfoldable pub playing : List ℕ → List ℕ → Writing
+playing text out = wanting (reportSize text) (report text) out

@@ -1,0 +1,47 @@
+-- A session's text as the transfers that it says (document 01, "Session lines").
+-- Assumes nothing.
+use mathlib.Core.Bool.{Bool, cond}
+use mathlib.Core.List.{List, [], _∷_}
+use Prim.Native.Nat.{ℕ, zero, suc}
+use lib.Dec.{eqb}
+use lib.ListN.{length, drop}
+use Rattle.controller.specs.declared.decision.Answer.{Answer}
+use Rattle.controller.specs.declared.decision.Answer.the-variants.{Done}
+use Rattle.controller.specs.Decision.{numberOf}
+use Rattle.controller.specs.Runs.{Sent}
+use Rattle.lines.specs.declared.reader.Line.{Line}
+use Rattle.lines.specs.Reading.{lineOf}
+
+-- A session: the transfers before its end or its bad line, and how it ends: done, or the bad line's answer.
+pub record Session : Type 0 where
+  pub sent : List Sent
+  pub end : Answer
+
+-- No transfers, and this end.
+abbrev pub ending : Answer → Session
+ending answer = record { sent = []; end = answer }
+
+-- A transfer, and then a session.
+abbrev pub following : Sent → Session → Session
+following t s = record { sent = t ∷ s .sent; end = s .end }
+
+-- The transfer that a line says.
+abbrev pub sentOf : Line → Sent
+sentOf line = record { kind = line .kind; byte = line .byte; wait = line .wait }
+
+-- The answer is 0.
+unfoldable pub isDone : Answer → Bool
+isDone answer = eqb (numberOf answer) 0
+
+-- The lines of a text, each where the one before it ended, up to a bad one. The first argument, the text's length or more,
+-- only bounds the recursion: every line has some bytes.
+unfoldable pub readUpTo : ℕ → List ℕ → Session
+readUpTo zero text = ending Done
+readUpTo (suc k) [] = ending Done
+readUpTo (suc k) (byte ∷ rest) =
+    cond (isDone (lineOf (byte ∷ rest) .answer))
+    (following (sentOf (lineOf (byte ∷ rest))) (readUpTo k (drop (lineOf (byte ∷ rest) .length) (byte ∷ rest))))
+    (ending (lineOf (byte ∷ rest) .answer))
+
+unfoldable pub sessionOf : List ℕ → Session
+sessionOf text = readUpTo (length text) text

@@ -1,0 +1,60 @@
+-- What is proved of sessions and their reports: each theorem is a type here, and its proof stands in proofs/Theorems.
+-- Assumes nothing.
+use mathlib.Core.List.{List, [], _∷_, _++_}
+use mathlib.Core.Logic.{_⊎_, _↔_}
+use mathlib.Core.Path.{_≡_}
+use Prim.Native.Nat.{ℕ, _^_, _<_, _≤_}
+use lib.Dec.{ltb}
+use lib.ListN.{length}
+use Rattle.controller.specs.declared.decision.Answer.the-variants.{Done, BadLine}
+use Rattle.controller.specs.Decision.{numberOf}
+use Rattle.controller.specs.Rows.{Row, Given}
+use Rattle.controller.specs.Runs.{Sent, heard}
+use Rattle.lines.specs.declared.writer.Written.{Written}
+use Rattle.lines.specs.Line.{line}
+use Rattle.lines.specs.Rows.{header}
+use Rattle.lines.specs.Theorems.{Sayable}
+use Rattle.lines.specs.Writing.{Meets}
+use Rattle.player.specs.Session.{sessionOf}
+use Rattle.player.specs.Report.{rowsFrom, start, report, reportSize, playing}
+
+-- The lines of these transfers, one after the other.
+unfoldable pub linesOf : List Sent → List ℕ
+linesOf [] = []
+linesOf (t ∷ ts) = line (t .kind) (t .byte) (t .wait) ++ linesOf ts
+
+-- Each of these transfers can be said by a line.
+unfoldable pub AllSayable : List Sent → Type 0
+AllSayable [] = Unit {0}
+AllSayable (t ∷ ts) = Sayable (t .kind) (t .byte) (t .wait) × AllSayable ts
+
+-- The lines of transfers are read as those transfers, and then what is after them.
+abbrev pub SessionReadsBack : Type 0
+SessionReadsBack =
+    (ts : List Sent) (more : List ℕ) → AllSayable ts
+    → sessionOf (linesOf ts ++ more) ≡ record { sent = ts ++ sessionOf more .sent; end = sessionOf more .end }
+
+-- The report of the lines of transfers is the header and a row for each, with what a controller tells that starts from reset.
+abbrev pub ReportTells : Type 0
+ReportTells = (ts : List Sent) → AllSayable ts → report (linesOf ts) ≡ header ++ rowsFrom 1 (heard start ts)
+
+-- A session ends with its text or at a bad line, whose answer is 12.
+abbrev pub SessionEnds : Type 0
+SessionEnds = (text : List ℕ) → (sessionOf text .end ≡ Done) ⊎ (sessionOf text .end ≡ BadLine)
+
+-- A buffer of six bytes for each byte of the text and 62 more always serves.
+abbrev pub ReportFits : Type 0
+ReportFits = (text : List ℕ) → length text < 2 ^ 63 → length (report text) ≤ reportSize text
+
+-- The row of play: 11.
+unfoldable pub playRows : List ℕ → List ℕ → List Row
+playRows text out = record { number = 11; applies = ltb (length out) (reportSize text) } ∷ []
+
+-- 11 is given exactly where the buffer is shorter than that.
+abbrev pub PlayAnswers : Type 0
+PlayAnswers = (text out : List ℕ) (n : ℕ) → (numberOf (playing text out .answer) ≡ n) ↔ Given n (playRows text out)
+
+-- No second answer fits.
+abbrev pub OnePlay : Type 0
+OnePlay =
+    (text out : List ℕ) (a b : Written) (x y : List ℕ) → Meets (playing text out) out a x → Meets (playing text out) out b y → (a ≡ b) × (x ≡ y)
