@@ -1,0 +1,91 @@
+-- The demands, cited where their parts are proved; here only that a refused writer of text leaves its buffer.
+-- Assumes nothing.
+use mathlib.Core.Bool.{true, false}
+use mathlib.Core.List.{List, []}
+use mathlib.Core.Path.{_≡_, refl, ap, _∙_}
+use Prim.Native.Nat.{ℕ}
+use lib.Dec.{ltb}
+use lib.ListN.{length}
+use Rattle.controller.proofs.Laws.Choice.{cond-elim}
+use Rattle.controller.proofs.Theorems.Answers.{transfer-answers, reset-answers}
+use Rattle.controller.proofs.Theorems.Refusals.{transfer-refusals, reset-refusals}
+use Rattle.controller.proofs.Theorems.Sound.{transfer-keeps-sound, reset-makes-sound, effects-fit}
+use Rattle.controller.specs.Bus.{badTransfer}
+use Rattle.controller.specs.Decision.{numberOf}
+use Rattle.glass.proofs.Theorems.{each-byte, later-stay, picture-answers, picture-refusals}
+use Rattle.lines.proofs.Theorems.One.{one-reading, writer-answers}
+use Rattle.lines.proofs.Theorems.Read.{reader-answers, read-writes-back}
+use Rattle.lines.proofs.Theorems.Written.{written-reads-back}
+use Rattle.lines.specs.Writing.{Writing, onto, wanting, lineWriting}
+use Rattle.lines.specs.declared.writer.Written.{Written}
+use Rattle.planner.proofs.Demand.Theorem.{demand-3}
+use Rattle.planner.proofs.Theorems.Plan.{board-sends-plan}
+use Rattle.planner.proofs.Theorems.Wish.{plan-answers, plan-refusals}
+use Rattle.player.proofs.Theorems.One.{play-answers}
+use Rattle.player.specs.Report.{report, reportSize, playing}
+use Rattle.promises.proofs.Determined.{each-determined}
+use Rattle.promises.specs.Answers.{EachAnswer}
+use Rattle.promises.specs.Demands.{LeavesBuffer, Demand1, Demand2, Demand3}
+
+pub each-answer : EachAnswer
+each-answer =
+    record {
+      transfer = transfer-answers;
+      reset = reset-answers;
+      picture = picture-answers;
+      plan = plan-answers;
+      reader = reader-answers;
+      writer = writer-answers;
+      play = play-answers;
+    }
+
+-- a call that writes no text where its number is not 0
+abbrev WritesNothing : Writing → Type 0
+WritesNothing w = (numberOf (w .answer) ≡ 0 → ⊥) → w .text ≡ []
+
+leaves : (w : Writing) (out : List ℕ) → WritesNothing w → LeavesBuffer w out
+leaves w out none returned after meets refused =
+    let empty : w .text ≡ [] = none (λ e. refused (ap (λ (r : Written). numberOf (r .answer)) (meets .told) ∙ e)) in
+    (ap (λ (r : Written). r .length) (meets .told) ∙ ap length empty, meets .buffer ∙ ap (λ (t : List ℕ). onto t out) empty)
+
+wanting-nothing : (size : ℕ) (text out : List ℕ) → WritesNothing (wanting size text out)
+unfolding wanting numberOf
+wanting-nothing size text out = cond-elim WritesNothing (ltb (length out) size) _ _ (λ _ _. refl) (λ _ other. absurd (other refl))
+
+writer-nothing : (kind byte wait : ℕ) (out : List ℕ) → WritesNothing (lineWriting kind byte wait out)
+unfolding lineWriting
+writer-nothing kind byte wait out =
+    cond-elim WritesNothing (badTransfer kind byte) _ _ (λ _ _. refl) (λ _. wanting-nothing 16 _ out)
+
+play-nothing : (text out : List ℕ) → WritesNothing (playing text out)
+unfolding playing
+play-nothing text out = wanting-nothing (reportSize text) (report text) out
+
+pub demand-1 : Demand1
+demand-1 =
+    record {
+      answers = each-determined;
+      numbers = each-answer;
+      transfer = transfer-refusals;
+      reset = reset-refusals;
+      picture = picture-refusals;
+      plan = plan-refusals;
+      writer = λ kind byte wait out. leaves _ out (writer-nothing kind byte wait out);
+      play = λ text out. leaves _ out (play-nothing text out);
+    }
+
+pub demand-2 : Demand2
+demand-2 =
+    record {
+      sound = transfer-keeps-sound;
+      reset = reset-makes-sound;
+      effects = effects-fit;
+      dots = each-byte;
+      later = later-stay;
+      written = written-reads-back;
+      read = read-writes-back;
+      one-reading = one-reading;
+    }
+
+pub demands-3 : Demand3
+demands-3 = record { runs = demand-3; bytes = board-sends-plan }

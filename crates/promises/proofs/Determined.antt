@@ -1,0 +1,34 @@
+-- One general law: what is promised by an equation is one result, and no second. Each public function is an instance.
+-- Assumes nothing.
+use mathlib.Core.List.{List}
+use mathlib.Core.Path.{_≡_, refl, ap, _∙_}
+use Prim.Native.Nat.{ℕ}
+use Rattle.promises.specs.Determined.{ExactlyOne, EachDetermined}
+
+-- a value that is promised
+one : {A : Type 0} (promised : A) → ExactlyOne (λ (a : A). a ≡ promised)
+one promised = (promised, refl, λ b is. is)
+
+-- a value and a list that are promised, by a promise that says no more and no less
+two : {A : Type 0} (Fits : A → List ℕ → Type 0) (promised : A) (left : List ℕ) → Fits promised left
+    → ((a : A) (l : List ℕ) → Fits a l → (a ≡ promised) × (l ≡ left)) → ExactlyOne (λ (x : A × List ℕ). Fits (x .0) (x .1))
+two Fits promised left fits only = ((promised, left), fits, λ x is i. (only (x .0) (x .1) is .0 i, only (x .0) (x .1) is .1 i))
+
+pub each-determined : EachDetermined
+each-determined =
+    record {
+      transfer = λ rec mem kind byte wait. two _ _ _ (record { told = refl; memory = refl }) (λ a l is. (is .told, is .memory));
+      reset = λ rec mem. two _ _ _ (record { told = refl; memory = refl }) (λ a l is. (is .told, is .memory));
+      is-sound = λ rec. one _;
+      number = λ answer. one _;
+      line-length = λ n. one _;
+      short-time = one _;
+      long-time = one _;
+      picture = λ rec mem columns lines lit out. two _ _ _ (record { told = refl; out = refl }) (λ a l is. (is .told, is .out));
+      plan = λ wish marks values out. two _ _ _ (record { told = refl; buffer = refl }) (λ a l is. (is .told, is .buffer));
+      read-line = λ text. one _;
+      write-line = λ kind byte wait out. two _ _ _ (record { told = refl; buffer = refl }) (λ a l is. (is .told, is .buffer));
+      write-row = λ number answer byte busy out. two _ _ _ (record { told = refl; buffer = refl }) (λ a l is. (is .told, is .buffer));
+      write-header = λ out. two _ _ _ (record { told = refl; buffer = refl }) (λ a l is. (is .told, is .buffer));
+      play = λ text out. two _ _ _ (record { told = refl; buffer = refl }) (λ a l is. (is .told, is .buffer));
+    }

@@ -1,0 +1,16 @@
+-- "Each is given exactly where its row applies, in order": for each call and each number.
+-- Assumes nothing.
+use Rattle.controller.specs.Theorems.{TransferAnswers, ResetAnswers}
+use Rattle.glass.specs.Theorems.{PictureAnswers}
+use Rattle.lines.specs.Theorems.{ReaderAnswers, WriterAnswers}
+use Rattle.planner.specs.Theorems.{PlanAnswers}
+use Rattle.player.specs.Theorems.{PlayAnswers}
+
+pub record EachAnswer : Type 0 where
+  pub transfer : TransferAnswers
+  pub reset : ResetAnswers
+  pub picture : PictureAnswers
+  pub plan : PlanAnswers
+  pub reader : ReaderAnswers
+  pub writer : WriterAnswers
+  pub play : PlayAnswers

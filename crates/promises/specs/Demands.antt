@@ -1,0 +1,54 @@
+-- The three demands, each as one statement over all public calls.
+-- Assumes nothing.
+use mathlib.Core.List.{List}
+use mathlib.Core.Path.{_≡_}
+use Prim.Native.Nat.{ℕ}
+use Rattle.controller.specs.Decision.{numberOf}
+use Rattle.controller.specs.Theorems.{TransferKeepsSound, ResetMakesSound, EffectsFit, TransferRefusals, ResetRefusals}
+use Rattle.glass.specs.Theorems.{EachByte, LaterStay, PictureRefusals}
+use Rattle.lines.specs.Theorems.{WrittenReadsBack, ReadWritesBack, OneReading}
+use Rattle.lines.specs.Writing.{Writing, Meets, lineWriting}
+use Rattle.lines.specs.declared.writer.Written.{Written}
+use Rattle.planner.specs.Demand
+use Rattle.planner.specs.Theorems.{PlanRefusals, BoardSendsPlan}
+use Rattle.player.specs.Report.{playing}
+use Rattle.promises.specs.Answers.{EachAnswer}
+use Rattle.promises.specs.Determined.{EachDetermined}
+
+-- A refused call that writes text gives length 0 and leaves the buffer as found.
+abbrev pub LeavesBuffer : Writing → List ℕ → Type 0
+LeavesBuffer w out =
+    (returned : Written) (after : List ℕ) → Meets w out returned after → (numberOf (returned .answer) ≡ 0 → ⊥)
+    → (returned .length ≡ 0) × (after ≡ out)
+
+-- 1. Every call answers every input. Nothing has to be checked first; bad input gets a numbered refusal, and no refusal alters a
+-- memory cell or an output buffer. What it leaves in the controller's record is listed.
+pub record Demand1 : Type 0 where
+  pub answers : EachDetermined
+  pub numbers : EachAnswer
+  pub transfer : TransferRefusals
+  pub reset : ResetRefusals
+  pub picture : PictureRefusals
+  pub plan : PlanRefusals
+  pub writer : (kind byte wait : ℕ) (out : List ℕ) → LeavesBuffer (lineWriting kind byte wait out) out
+  pub play : (text out : List ℕ) → LeavesBuffer (playing text out) out
+
+-- 2. Each bus transfer answers and leaves its controller as set out in document 01: that is the promise of `transfer`, with the
+-- definitions it cites. It keeps a sound record sound and its effect within the memory; the dots on the glass are the picture's
+-- definition, byte by byte. A session line, once written, reads back as the same transfer, and a line that was read is written
+-- out the same.
+pub record Demand2 : Type 0 where
+  pub sound : TransferKeepsSound
+  pub reset : ResetMakesSound
+  pub effects : EffectsFit
+  pub dots : EachByte
+  pub later : LaterStay
+  pub written : WrittenReadsBack
+  pub read : ReadWritesBack
+  pub one-reading : OneReading
+
+-- 3. Any accepted wish, any sound controller, cut runs as often as you like and a whole one; and the bytes that a board sends
+-- after an accepted call are that plan.
+pub record Demand3 : Type 0 where
+  pub runs : Rattle.planner.specs.Demand.Demand3
+  pub bytes : BoardSendsPlan

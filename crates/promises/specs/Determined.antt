@@ -1,0 +1,54 @@
+-- "For each public function the promise determines the answer and the final content of every lent byte": for every input one
+-- result meets the promise, and no second does. A result is what is returned, and with it each lent list as it is left.
+-- Assumes nothing.
+use mathlib.Core.Bool.{Bool}
+use mathlib.Core.List.{List}
+use mathlib.Core.Path.{_≡_}
+use Prim.Native.Nat.{ℕ}
+use Rattle.controller.specs.Bus.{decided, resetDecided}
+use Rattle.controller.specs.Bus
+use Rattle.controller.specs.Cells.{lineLength}
+use Rattle.controller.specs.Decision.{numberOf}
+use Rattle.controller.specs.Execute.{shortTime, longTime}
+use Rattle.controller.specs.Record.{sound}
+use Rattle.controller.specs.declared.decision.Answer.{Answer}
+use Rattle.controller.specs.declared.decision.Outcome.{Outcome}
+use Rattle.controller.specs.declared.«record».Record.{Record}
+use Rattle.glass.specs.Picture.{Pictured}
+use Rattle.lines.specs.Reading.{lineOf}
+use Rattle.lines.specs.Rows.{header, row, rowSize}
+use Rattle.lines.specs.Writing.{lineWriting, wanting}
+use Rattle.lines.specs.Writing
+use Rattle.lines.specs.declared.reader.Line.{Line}
+use Rattle.lines.specs.declared.writer.Written.{Written}
+use Rattle.planner.specs.Bus.{replyTo}
+use Rattle.planner.specs.declared.bus.Planned.{Planned}
+use Rattle.planner.specs.declared.wish.Wish.{Wish}
+use Rattle.player.specs.Report.{playing}
+
+-- One result fits, and no second.
+abbrev pub ExactlyOne : {A : Type 0} → (A → Type 0) → Type 0
+ExactlyOne {A} Fits = (a : A) × Fits a × ((b : A) → Fits b → b ≡ a)
+
+-- Every public function of every crate.
+pub record EachDetermined : Type 0 where
+  pub transfer : (rec : Record) (mem : List ℕ) (kind byte wait : ℕ)
+      → ExactlyOne (λ (x : Outcome × List ℕ). Rattle.controller.specs.Bus.Meets (decided rec mem kind byte wait) mem (x .0) (x .1))
+  pub reset : (rec : Record) (mem : List ℕ)
+      → ExactlyOne (λ (x : Outcome × List ℕ). Rattle.controller.specs.Bus.Meets (resetDecided rec mem) mem (x .0) (x .1))
+  pub is-sound : (rec : Record) → ExactlyOne (λ (x : Bool). x ≡ sound rec)
+  pub number : (answer : Answer) → ExactlyOne (λ (x : ℕ). x ≡ numberOf answer)
+  pub line-length : (n : Bool) → ExactlyOne (λ (x : ℕ). x ≡ lineLength n)
+  pub short-time : ExactlyOne (λ (x : ℕ). x ≡ shortTime)
+  pub long-time : ExactlyOne (λ (x : ℕ). x ≡ longTime)
+  pub picture : (rec : Record) (mem : List ℕ) (columns lines : ℕ) (lit : Bool) (out : List ℕ)
+      → ExactlyOne (λ (x : Answer × List ℕ). Pictured rec mem columns lines lit out (x .0) (x .1))
+  pub plan : (wish : Wish) (marks values out : List ℕ)
+      → ExactlyOne (λ (x : Planned × List ℕ). Rattle.planner.specs.Bus.Meets (replyTo wish marks values out) out (x .0) (x .1))
+  pub read-line : (text : List ℕ) → ExactlyOne (λ (x : Line). x ≡ lineOf text)
+  pub write-line : (kind byte wait : ℕ) (out : List ℕ)
+      → ExactlyOne (λ (x : Written × List ℕ). Rattle.lines.specs.Writing.Meets (lineWriting kind byte wait out) out (x .0) (x .1))
+  pub write-row : (number answer byte busy : ℕ) (out : List ℕ)
+      → ExactlyOne (λ (x : Written × List ℕ). Rattle.lines.specs.Writing.Meets (wanting rowSize (row number answer byte busy) out) out (x .0) (x .1))
+  pub write-header : (out : List ℕ) → ExactlyOne (λ (x : Written × List ℕ). Rattle.lines.specs.Writing.Meets (wanting 20 header out) out (x .0) (x .1))
+  pub play : (text out : List ℕ) → ExactlyOne (λ (x : Written × List ℕ). Rattle.lines.specs.Writing.Meets (playing text out) out (x .0) (x .1))
