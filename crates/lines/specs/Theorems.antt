@@ -1,7 +1,7 @@
 -- What is proved of lines and of the calls that read and write them: each theorem is a type here, and its proof stands in
 -- proofs/Theorems (document 01, "Session lines", "What each number says").
 -- Assumes nothing.
-use mathlib.Core.Bool.{Bool, false}
+use mathlib.Core.Bool.{false}
 use mathlib.Core.List.{List, [], _∷_, _++_}
 use mathlib.Core.Logic.{_⊎_, _↔_}
 use mathlib.Core.Path.{_≡_}
@@ -16,7 +16,7 @@ use Rattle.lines.specs.declared.reader.Line.{Line}
 use Rattle.lines.specs.declared.writer.Written.{Written}
 use Rattle.lines.specs.Line.{line, waitLimit}
 use Rattle.lines.specs.Reading.{lineOf, badLine}
-use Rattle.lines.specs.Writing.{Writing, Meets, writing, wanting, lineWriting}
+use Rattle.lines.specs.Writing.{Writing, Meets, writing, lineWriting}
 
 -- A transfer that a line can say: a kind 0 to 3, a byte, 00h for a read, and a wait 0 to 4,294,967,295.
 pub record Sayable (kind byte wait : ℕ) : Type 0 where
@@ -40,6 +40,12 @@ readAs kind byte wait = record { answer = Done; kind = kind; byte = byte; wait =
 -- What was written reads back as the same transfer, with any text after it.
 abbrev pub WrittenReadsBack : Type 0
 WrittenReadsBack = (kind byte wait : ℕ) (more : List ℕ) → Sayable kind byte wait → lineOf (line kind byte wait ++ more) ≡ readAs kind byte wait
+
+-- So a buffer into which a line was written reads back as the same transfer, whatever stands after the line.
+abbrev pub BufferReadsBack : Type 0
+BufferReadsBack =
+    (kind byte wait : ℕ) (out : List ℕ) (told : Written) (after : List ℕ) → byte < 256 → wait ≤ waitLimit
+    → Meets (lineWriting kind byte wait out) out told after → told .answer ≡ Done → lineOf after ≡ readAs kind byte wait
 
 -- A line that was read is written out the same, byte for byte, into any buffer of at least 16 bytes.
 abbrev pub ReadWritesBack : Type 0

@@ -10,7 +10,7 @@ use Rattle.controller.specs.declared.decision.Decision.{Decision}
 use Rattle.controller.specs.declared.«record».Half.the-variants.{Empty}
 use Rattle.controller.specs.declared.«record».Record.{Record}
 use Rattle.controller.specs.Decision.{performed}
-use Rattle.controller.specs.Runs.{State, Told, decidedOf, toldOf}
+use Rattle.controller.specs.Runs.{Told, decidedOf, toldOf}
 use Rattle.lines.specs.declared.reader.Line.{Line}
 use Rattle.lines.specs.Rows.{row}
 use Rattle.lines.specs.Writing.{onto}

@@ -1,15 +1,15 @@
 -- Laws of digits: what a digit is worth is what it was made of, and the decimal digits of a number one by one.
 -- Assumes nothing.
-use mathlib.Core.Bool.{Bool, true, false, cond, _&&_}
+use mathlib.Core.Bool.{Bool, true, false}
 use mathlib.Core.List.{List, [], _∷_, _++_}
-use mathlib.Core.Path.{_≡_, refl, sym, ap, _∙_}
+use mathlib.Core.Path.{_≡_, refl, ap, _∙_}
 use Prim.Native.Nat.{ℕ, zero, suc, _+_, _-_, _*_, _/_, _%_, _^_, _<_, _≤_}
 use native.Mathlib.Omega.{arith}
 use native.Mathlib.Nat.{pow-suc}
-use borrow.Author.Tests.{ltb-true, ltb-false, leb-true, leb-false, lt-ltb, le-ltb, le-leb, lt-leb}
+use borrow.Author.Tests.{ltb-true, ltb-false, leb-true, lt-ltb, le-ltb, le-leb, lt-leb}
 use lib.Dec.{ltb, leb}
 use lib.ListN.{length, length-append}
-use Rattle.controller.proofs.Laws.Choice.{cond-elim, and-left, and-right}
+use Rattle.controller.proofs.Laws.Choice.{and-left, and-right}
 use Rattle.lines.specs.Digits.{digit, worthOf, between, spelled, decimal, numberField}
 
 -- what follows from a test both ways

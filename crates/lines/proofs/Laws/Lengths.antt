@@ -1,6 +1,6 @@
 -- Laws of lengths: how long a line and a row can be.
 -- Assumes nothing.
-use mathlib.Core.List.{List, _++_}
+use mathlib.Core.List.{_++_}
 use mathlib.Core.Path.{_≡_, _∙_, ap}
 use Prim.Native.Nat.{ℕ, _+_, _<_, _≤_, _^_}
 use native.Mathlib.Omega.{arith}
@@ -8,7 +8,7 @@ use lib.ListN.{length, length-append}
 use Rattle.lines.specs.Digits.{tab, newline, byteField, numberField}
 use Rattle.lines.specs.Line.{line, kindField, waitLimit}
 use Rattle.lines.specs.Rows.{row, rowSize}
-use Rattle.lines.proofs.Laws.Digits.{field-below, field-length}
+use Rattle.lines.proofs.Laws.Digits.{field-below}
 
 pub line-length : (kind byte wait : ℕ) → length (line kind byte wait) ≡ 5 + length (numberField wait newline)
 unfolding line kindField byteField

@@ -1,19 +1,19 @@
 -- Laws of waits: decimal digits are read as their number, and digits that were read are those of the number.
 -- Assumes nothing.
-use mathlib.Core.Bool.{Bool, true, false, cond}
+use mathlib.Core.Bool.{true, false, cond}
 use mathlib.Core.List.{List, [], _∷_, _++_, append-assoc}
 use mathlib.Core.Path.{_≡_, refl, sym, ap, _∙_}
 use Prim.Native.Nat.{ℕ, zero, suc, _+_, _*_, _/_, _%_, _<_, _≤_}
 use native.Mathlib.Omega.{arith}
-use borrow.Author.Tests.{ltb-true, ltb-false, eqb-true, lt-ltb, le-ltb, le-leb, ne-eqb}
-use lib.Dec.{ltb, leb, eqb}
+use borrow.Author.Tests.{ltb-true, ltb-false, eqb-true, lt-ltb, le-leb, ne-eqb}
+use lib.Dec.{ltb, eqb}
 use lib.ListN.{length, drop, length-append}
 use Rattle.lines.specs.declared.reader.Wait.{Wait}
 use Rattle.lines.specs.declared.reader.Wait.the-variants.{Good, Bad}
 use Rattle.lines.specs.Digits.{newline, digit, worthOf, decimal}
 use Rattle.lines.specs.Line.{waitLimit}
 use Rattle.lines.specs.Reading.{byteAt, mayFollow, restOf}
-use Rattle.lines.proofs.Laws.Digits.{either, decimal-small, decimal-split, decimal-more, length-small, length-split, worth-digit, digit-worth}
+use Rattle.lines.proofs.Laws.Digits.{either, decimal-small, decimal-split, decimal-more, length-split, worth-digit, digit-worth}
 use Rattle.lines.proofs.Laws.Steps.{follow-digit}
 
 -- a wait that starts here, at this place of its line

@@ -1,13 +1,13 @@
 -- A line that was read stands at the start of its text, is that of a transfer that a line can say, and is written out the same.
 -- Assumes nothing.
-use mathlib.Core.Bool.{Bool, true, false, cond, _&&_}
+use mathlib.Core.Bool.{true, false}
 use mathlib.Core.List.{List, [], _∷_, _++_, append-assoc}
 use mathlib.Core.Logic.{_⊎_, inl, inr, ⊎-elim}
 use mathlib.Core.Path.{_≡_, refl, sym, ap, _∙_}
-use Prim.Native.Nat.{ℕ, _+_, _*_, _/_, _%_, _<_, _≤_}
+use Prim.Native.Nat.{ℕ, _+_, _/_, _%_, _<_, _≤_}
 use native.Mathlib.Omega.{arith}
-use borrow.Author.Tests.{ltb-true, ltb-false, eqb-true, lt-ltb, le-ltb}
-use lib.Dec.{ltb, eqb}
+use borrow.Author.Tests.{ltb-true, eqb-true, le-ltb}
+use lib.Dec.{ltb}
 use lib.ListN.{length, take, drop, length-append}
 use lib.Seq.{take-at}
 use Rattle.controller.proofs.Laws.Choice.{and-left, and-right}
@@ -16,11 +16,11 @@ use Rattle.controller.specs.Bus.{badTransfer}
 use Rattle.lines.specs.declared.reader.Line.{Line}
 use Rattle.lines.specs.declared.reader.Wait.{Wait}
 use Rattle.lines.specs.declared.reader.Wait.the-variants.{Good, Bad}
-use Rattle.lines.specs.Digits.{tab, newline, digit, worthOf, decimal, byteField, numberField}
-use Rattle.lines.specs.Line.{line, kindField, letterOf, kindOf, waitLimit}
+use Rattle.lines.specs.Digits.{tab, newline, worthOf, byteField, numberField}
+use Rattle.lines.specs.Line.{line, kindField, kindOf}
 use Rattle.lines.specs.Reading.{byteAt, kindStands, byteRead, byteStands, waitOf, badLine, withWait, completed, lineOf}
-use Rattle.lines.specs.Writing.{writing, wanting, lineWriting}
-use Rattle.lines.specs.Theorems.{Sayable, Starts, readAs, ReadWritesBack, ReaderAnswers, ReadIsSayable}
+use Rattle.lines.specs.Writing.{wanting, lineWriting}
+use Rattle.lines.specs.Theorems.{Sayable, Starts, ReadWritesBack, ReaderAnswers, ReadIsSayable}
 use Rattle.lines.proofs.Laws.Digits.{either, digit-worth, decimal-some, field-length}
 use Rattle.lines.proofs.Laws.Kinds.{letter-kind}
 use Rattle.lines.proofs.Laws.Lengths.{line-length, line-fits}

@@ -2,17 +2,22 @@
 -- Assumes nothing.
 use mathlib.Core.Bool.{true, false}
 use mathlib.Core.List.{List, [], _∷_, _++_, append-assoc}
-use mathlib.Core.Path.{_≡_, refl, sym, ap, _∙_}
-use Prim.Native.Nat.{ℕ, _+_, _*_, _/_, _%_, _<_, _≤_}
+use mathlib.Core.Path.{_≡_, sym, ap, _∙_}
+use Prim.Native.Nat.{ℕ, _+_, _/_, _%_, _<_, _≤_}
 use native.Mathlib.Omega.{arith}
 use borrow.Author.Tests.{lt-ltb}
-use lib.ListN.{length}
+use lib.Dec.{ltb}
+use lib.ListN.{length, drop}
+use Rattle.controller.specs.declared.decision.Answer.the-variants.{Done}
+use Rattle.controller.specs.Bus.{badTransfer}
+use Rattle.lines.specs.declared.writer.Written.{Written}
+use Rattle.lines.specs.Writing.{Writing, onto, writing, wanting, lineWriting}
 use Rattle.lines.specs.declared.reader.Wait.the-variants.{Good}
 use Rattle.lines.specs.Digits.{newline, digit, worthOf, decimal, byteField, numberField}
-use Rattle.lines.specs.Line.{line, kindField, letterOf, kindOf, waitLimit}
+use Rattle.lines.specs.Line.{line, kindField, kindOf, waitLimit}
 use Rattle.lines.specs.Reading.{byteAt, kindStands, byteStands, byteRead, restOf, waitOf, withWait, completed, lineOf}
-use Rattle.lines.specs.Theorems.{Sayable, readAs, WrittenReadsBack, LinesFit}
-use Rattle.lines.proofs.Laws.Digits.{worth-digit, field-length}
+use Rattle.lines.specs.Theorems.{Sayable, readAs, WrittenReadsBack, BufferReadsBack, LinesFit}
+use Rattle.lines.proofs.Laws.Digits.{either, worth-digit, field-length}
 use Rattle.lines.proofs.Laws.Kinds.{kind-below, kind-letter}
 use Rattle.lines.proofs.Laws.Lengths.{line-length, line-fits}
 use Rattle.lines.proofs.Laws.Waits.{begun, decimal-reads}
@@ -64,6 +69,23 @@ module _ (kind byte wait : ℕ) (more : List ℕ) (can : Sayable kind byte wait)
 
 pub written-reads-back : WrittenReadsBack
 written-reads-back kind byte wait more can = reads-back kind byte wait more can
+
+-- a call that is done has written the line of a transfer that is not bad
+line-done : (kind byte wait : ℕ) (out : List ℕ) → lineWriting kind byte wait out .answer ≡ Done
+    → (badTransfer kind byte ≡ false) × (lineWriting kind byte wait out ≡ writing (line kind byte wait))
+unfolding lineWriting wanting
+line-done kind byte wait out done =
+    either (badTransfer kind byte)
+    (λ bad. let other = simp bad at done in let no : _≡_ {A = ℕ} 0 1 = cc in absurd (omega arith))
+    (λ good. either (ltb (length out) 16)
+    (λ short. let other = simp (good, short) at done in let no : _≡_ {A = ℕ} 0 1 = cc in absurd (omega arith))
+    (λ enough. (good, simp (good, enough))))
+
+pub buffer-reads-back : BufferReadsBack
+buffer-reads-back kind byte wait out told after is-byte is-wait meets done =
+    let wrote = line-done kind byte wait out (sym (ap (λ (w : Written). w .answer) (meets .told)) ∙ done) in
+    ap lineOf (meets .buffer ∙ ap (λ (w : Writing). onto (w .text) out) (wrote .1))
+    ∙ written-reads-back kind byte wait (drop (length (line kind byte wait)) out) (record { transfer = wrote .0; is-byte = is-byte; is-wait = is-wait })
 
 pub lines-fit : LinesFit
 lines-fit = line-fits

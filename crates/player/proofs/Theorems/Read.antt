@@ -1,27 +1,25 @@
 -- A session's text is read as the transfers of its lines, and ends with the text or at a bad line.
 -- Assumes nothing.
-use mathlib.Core.Bool.{true, false}
+use mathlib.Core.Bool.{true}
 use mathlib.Core.List.{List, [], _∷_, _++_, append-assoc, append-nil}
 use mathlib.Core.Logic.{_⊎_, inl, inr, ⊎-elim}
 use mathlib.Core.Path.{_≡_, refl, sym, ap, _∙_}
-use Prim.Native.Nat.{ℕ, zero, suc, _+_, _<_, _≤_}
+use Prim.Native.Nat.{ℕ, zero, suc, _<_, _≤_}
 use native.Mathlib.Omega.{arith}
 use lib.ListN.{length, drop, length-append, length-drop}
 use lib.Seq.{drop-append-seam}
-use Rattle.controller.specs.declared.decision.Answer.{Answer}
 use Rattle.controller.specs.declared.decision.Answer.the-variants.{Done, BadLine}
 use Rattle.controller.specs.Decision.{numberOf}
-use Rattle.controller.specs.Runs.{Sent, heard}
+use Rattle.controller.specs.Runs.{Sent}
 use Rattle.lines.specs.declared.reader.Line.{Line}
-use Rattle.lines.specs.Digits.{newline, numberField}
 use Rattle.lines.specs.Line.{line}
 use Rattle.lines.specs.Reading.{lineOf}
 use Rattle.lines.proofs.Laws.Digits.{either}
 use Rattle.lines.proofs.Laws.Lengths.{line-length}
 use Rattle.lines.proofs.Theorems.Written.{written-reads-back}
 use Rattle.lines.proofs.Theorems.Read.{reader-answers}
-use Rattle.player.specs.Session.{Session, ending, following, sentOf, isDone, sessionOf}
-use Rattle.player.specs.Report.{rowsFrom, lastRow, rowsOf, start, report}
+use Rattle.player.specs.Session.{Session, following, sentOf, isDone, sessionOf}
+use Rattle.player.specs.Report.{lastRow, rowsOf, report}
 use Rattle.player.specs.Theorems.{linesOf, AllSayable, SessionReadsBack, ReportTells, SessionEnds}
 use Rattle.player.proofs.Laws.Session.{line-long, session-none, session-more, session-bad}
 

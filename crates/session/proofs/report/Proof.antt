@@ -4,11 +4,11 @@ use mathlib.Core.List.{List}
 use mathlib.Core.Path.{_≡_, sym, ap, _∙_}
 use Prim.Native.Nat.{ℕ, _≤_}
 use native.Mathlib.Omega.{arith}
-use lib.ListN.{length, take, drop, length-append}
+use lib.ListN.{length, drop, length-append}
 use lib.Seq.{length-take-le}
 use borrow.Author.Needs.{needs}
 use Rattle.lines.specs.declared.writer.Written.{Written}
-use Rattle.lines.specs.Writing.{Writing, Meets, onto}
+use Rattle.lines.specs.Writing.{Writing, Meets}
 use Rattle.session.proofs.report.Statement.{statement}
 use Rattle.session.proofs.report.Tie as tie
 

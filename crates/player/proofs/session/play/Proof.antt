@@ -2,17 +2,14 @@
 -- Assumes nothing.
 use Rattle.player.specs.Report.{playing}
 use mathlib.Core.Bool.{true, false}
-use mathlib.Core.Path.{_≡_, sym, _∙_}
-use Prim.Native.Nat.{_+_, _*_}
+use mathlib.Core.Path.{_≡_, sym, _∙_, ap}
+use Prim.Native.Nat.{_+_, _*_, ℕ, _≤_}
 use denote.Ref.{now}
 use lib.Dec.{ltb}
-use lib.ListN.{length}
-use Prim.Native.Nat.{ℕ, _≤_}
-use mathlib.Core.Path.{ap}
+use lib.ListN.{length, length-drop}
 use native.Mathlib.Omega.{arith}
 use borrow.Author.Tests.{ltb-false, le-ltb}
 use Rattle.controller.specs.declared.decision.Answer.the-variants.{Done}
-use lib.ListN.{length-drop}
 use Rattle.controller.specs.Record.{sound}
 use Rattle.controller.specs.Runs.{State}
 use Rattle.lines.specs.Writing.{wanting}

@@ -1,22 +1,14 @@
 -- `player::session::play_rows` meets its contract: between two lines `Going` holds, and the memory keeps its length; a line that
 -- stands carries it on, a bad one ends the rows, and so does the end of the text. The measure is what is left of the text.
 -- Assumes nothing.
-use mathlib.Core.Bool.{true, false}
-use mathlib.Core.List.{List}
-use mathlib.Core.Path.{_≡_, refl, sym, ap, _∙_}
-use Prim.Native.Nat.{ℕ, _+_, _-_}
-use denote.Ref.{now}
+use mathlib.Core.Path.{_≡_, refl, sym, _∙_}
+use Prim.Native.Nat.{_-_}
 use borrow.Author.Tests.{not-true, not-false}
-use lib.ListN.{take, drop, length-drop}
-use Rattle.controller.specs.Decision.{numberOf}
-use Rattle.lines.specs.declared.reader.Line.{Line}
-use Rattle.lines.specs.Reading.{lineOf}
+use lib.ListN.{length-drop, length}
 use Rattle.lines.specs.Rows.{row}
-use Rattle.player.specs.Session.{isDone}
 use native.Mathlib.Omega.{arith}
 use borrow.Author.Needs.{needs}
-use lib.ListN.{length}
-use Rattle.player.proofs.Laws.Going.{Going, writes, tail, tail-back, going-begins, going-ends, line-stops, line-goes}
+use Rattle.player.proofs.Laws.Going.{Going, tail, going-begins, going-ends, line-stops, line-goes}
 use Rattle.player.proofs.session.play_rows.Statement.{statement}
 use Rattle.player.proofs.session.play_rows.Tie as tie
 
