@@ -1,0 +1,149 @@
+// Plays plans with cuts on the controller itself. For each wish of a fixed set and each starting record of another, the
+// plan is stopped after any number of its transfers and then sent whole; what the controller then holds is compared
+// with what demand 3 says of it. Document 01, "The plan".
+ghost use Prim.Native.Nat.{_≤_};
+
+mod cells;
+mod report;
+mod runs;
+mod starts;
+mod tally;
+mod verdict;
+mod wishes;
+
+use libc::STDOUT_FILENO;
+use report::put_total;
+use report::put_wish;
+use report::put_wrong;
+use runs::Run;
+use runs::lay_out;
+use runs::play_run;
+use starts::STARTS;
+use tally::Tally;
+use tally::add_run;
+use tally::begin;
+use tally::join;
+use verdict::is_fine;
+use wishes::WISHES;
+
+// Plays a run and counts it; a wrong one is named in the report.
+fn count_run(out: &mut [u8; 2048], plan: &[u8; 2808], count: usize, run: Run, tally: Tally) -> Tally
+    requires { ⌜ (count ≤ 468) × (run .first ≤ 468) × (run .second ≤ 468) ⌝ }
+{
+    let verdict = play_run(plan, count, run);
+    let fault = verdict.fault;
+    if is_fine(fault) {
+        return add_run(tally, verdict.sent, 0);
+    }
+    let told = put_wrong(out, tally, run, fault);
+    add_run(told, verdict.sent, 1)
+}
+
+// Every cut of a plan from one start: before the first transfer, after each, and after the last.
+fn play_cuts(
+    out: &mut [u8; 2048],
+    plan: &[u8; 2808],
+    count: usize,
+    wish: u8,
+    start: u8,
+    tally: Tally,
+) -> Tally
+    requires { ⌜ count ≤ 468 ⌝ }
+{
+    let mut next = tally;
+    let mut cut = 0;
+    while cut <= count {
+        let run = Run {
+            wish,
+            start,
+            first: cut,
+            second: 0,
+        };
+        next = count_run(out, plan, count, run, next);
+        cut += 1;
+    }
+    next
+}
+
+// Every cut of a plan from one start, and one run that is cut twice.
+fn play_start(
+    out: &mut [u8; 2048],
+    plan: &[u8; 2808],
+    count: usize,
+    wish: u8,
+    start: u8,
+    tally: Tally,
+) -> Tally
+    requires { ⌜ count ≤ 468 ⌝ }
+{
+    let cut = play_cuts(out, plan, count, wish, start, tally);
+    let twice = Run {
+        wish,
+        start,
+        first: count / 2,
+        second: count / 3,
+    };
+    count_run(out, plan, count, twice, cut)
+}
+
+// A plan from every start.
+fn play_starts(
+    out: &mut [u8; 2048],
+    plan: &[u8; 2808],
+    count: usize,
+    wish: u8,
+    tally: Tally,
+) -> Tally
+    requires { ⌜ count ≤ 468 ⌝ }
+{
+    let mut next = tally;
+    let mut start = 0;
+    while start < STARTS {
+        next = play_start(out, plan, count, wish, start, next);
+        start += 1;
+    }
+    next
+}
+
+// The plan of one wish from every start, and its line of the report.
+fn play_wish(out: &mut [u8; 2048], wish: u8, total: Tally) -> Tally {
+    let mut plan = [0u8; 2808];
+    let count = lay_out(wish, &mut plan);
+    let played = play_starts(out, &plan, count, wish, begin(total));
+    let told = put_wish(out, wish, count, played);
+    join(total, told)
+}
+
+fn play_wishes(out: &mut [u8; 2048], tally: Tally) -> Tally {
+    let mut next = tally;
+    let mut wish = 0;
+    while wish < WISHES {
+        next = play_wish(out, wish, next);
+        wish += 1;
+    }
+    next
+}
+
+fn write_first(out: &[u8], length: usize) {
+    if out.len() < length {
+        return;
+    }
+    io::write_all(STDOUT_FILENO, &out[..length]);
+}
+
+fn print(out: &[u8; 2048], length: usize) {
+    write_first(out, length);
+}
+
+fn main() {
+    let mut out = [0u8; 2048];
+    let nothing = Tally {
+        at: 0,
+        runs: 0,
+        transfers: 0,
+        wrong: 0,
+    };
+    let total = play_wishes(&mut out, nothing);
+    let told = put_total(&mut out, total);
+    print(&out, told.at);
+}

@@ -1,0 +1,100 @@
+// The report, gathered in a buffer. What does not fit is left out; 2,048 bytes hold all lines that there can be.
+use crate::runs::Run;
+use crate::tally::Tally;
+use crate::verdict::Fault;
+
+fn put_byte(out: &mut [u8; 2048], at: usize, byte: u8) -> usize {
+    if 2048 <= at {
+        return at;
+    }
+    out[at] = byte;
+    at + 1
+}
+
+fn put_text(out: &mut [u8; 2048], at: usize, text: &[u8]) -> usize {
+    let mut next = at;
+    let mut i = 0;
+    while i < text.len() {
+        next = put_byte(out, next, text[i]);
+        i += 1;
+    }
+    next
+}
+
+fn put_number(out: &mut [u8; 2048], at: usize, n: u64) -> usize {
+    let mut digits = [0u8; 20];
+    let length = io::decimal(n, &mut digits);
+    put_text(out, at, &digits[..length])
+}
+
+// A name and a number, with blanks before them.
+fn put_count(out: &mut [u8; 2048], at: usize, name: &[u8], n: u64) -> usize {
+    let named = put_text(out, at, name);
+    put_number(out, named, n)
+}
+
+fn move_to(tally: Tally, at: usize) -> Tally {
+    let mut next = tally;
+    next.at = at;
+    next
+}
+
+// What was wrong.
+fn put_fault(out: &mut [u8; 2048], at: usize, fault: Fault) -> usize {
+    match fault {
+        Fault::Nothing => at,
+        Fault::Refused => put_text(out, at, b"refused as busy"),
+        Fault::Width => put_text(out, at, b"width"),
+        Fault::Waiting => put_text(out, at, b"half waiting"),
+        Fault::Function => put_text(out, at, b"N or F"),
+        Fault::Control => put_text(out, at, b"D, C or B"),
+        Fault::Entry => put_text(out, at, b"I/D or S"),
+        Fault::Shift => put_text(out, at, b"shift"),
+        Fault::Counter => put_text(out, at, b"counter"),
+        Fault::Register => put_text(out, at, b"register"),
+        Fault::Stale => put_text(out, at, b"register stale"),
+        Fault::Busy => put_text(out, at, b"busy"),
+        Fault::Cell(place) => put_count(out, at, b"cell ", place as u64),
+    }
+}
+
+// The line of a wrong run.
+fn put_run(out: &mut [u8; 2048], at: usize, run: Run, fault: Fault) -> usize {
+    let wish = put_count(out, at, b"wrong: wish ", run.wish as u64);
+    let start = put_count(out, wish, b"  start ", run.start as u64);
+    let first = put_count(out, start, b"  cut ", run.first as u64);
+    let second = put_count(out, first, b"  then ", run.second as u64);
+    let parted = put_text(out, second, b"  ");
+    let named = put_fault(out, parted, fault);
+    put_byte(out, named, b'\n')
+}
+
+// Names a wrong run, if it is one of the first ten.
+pub fn put_wrong(out: &mut [u8; 2048], tally: Tally, run: Run, fault: Fault) -> Tally {
+    if 10 <= tally.wrong {
+        return tally;
+    }
+    move_to(tally, put_run(out, tally.at, run, fault))
+}
+
+// Runs and transfers, and what they were found to be.
+fn put_counts(out: &mut [u8; 2048], at: usize, tally: Tally) -> usize {
+    let runs = put_count(out, at, b"  runs ", tally.runs);
+    put_count(out, runs, b"  transfers ", tally.transfers)
+}
+
+// The line of a wish.
+pub fn put_wish(out: &mut [u8; 2048], wish: u8, count: usize, tally: Tally) -> Tally {
+    let named = put_count(out, tally.at, b"wish ", wish as u64);
+    let planned = put_count(out, named, b"  records ", count as u64);
+    let counted = put_counts(out, planned, tally);
+    move_to(tally, put_byte(out, counted, b'\n'))
+}
+
+// The last line.
+pub fn put_total(out: &mut [u8; 2048], tally: Tally) -> Tally {
+    let runs = put_count(out, tally.at, b"runs ", tally.runs);
+    let transfers = put_count(out, runs, b"  transfers ", tally.transfers);
+    let wrong = put_count(out, transfers, b"  wrong ", tally.wrong);
+    move_to(tally, put_byte(out, wrong, b'\n'))
+}

@@ -1,0 +1,105 @@
+// Sends plans to the controller, cut and whole.
+ghost use Prim.Native.Nat.{_<_, _≤_};
+use crate::cells::first_bytes;
+use crate::cells::wished_bytes;
+use crate::starts::excepted;
+use crate::starts::start_of;
+use crate::verdict::Verdict;
+use crate::verdict::judge;
+use crate::wishes::marks_of;
+use crate::wishes::wish_of;
+use controller::Record;
+use controller::number;
+use controller::transfer;
+
+// One run: the wish and the start by their numbers, how many transfers are sent before the first cut, and how many of
+// the plan begun anew before the second.
+pub struct Run {
+    pub wish: u8,
+    pub start: u8,
+    pub first: usize,
+    pub second: usize,
+}
+
+// The controller on the way: its record, the transfers sent so far, and whether one of them was refused as busy.
+pub struct Played {
+    pub rec: Record,
+    pub sent: u64,
+    pub refused: bool,
+}
+
+// No plan has more than 468 records.
+fn limit(count: usize) -> usize
+    ensures { λ r. ⌜ r ≤ 468 ⌝ }
+{
+    if 468 < count {
+        return 468;
+    }
+    count
+}
+
+// The plan of a wish: how many records it has.
+pub fn lay_out(wish: u8, plan: &mut [u8; 2808]) -> usize
+    ensures { λ r. ⌜ r ≤ 468 ⌝ }
+{
+    let marks = marks_of(wish);
+    let values = wished_bytes();
+    let planned = planner::plan(wish_of(wish), &marks, &values, plan);
+    limit(planned.count)
+}
+
+fn little_endian(a: u8, b: u8, c: u8, d: u8) -> u32 {
+    a as u32 + b as u32 * 256 + c as u32 * 65_536 + d as u32 * 16_777_216
+}
+
+// One record of the plan, sent exactly as planned.
+fn send(plan: &[u8; 2808], at: usize, memory: &mut [u8; 144], played: Played) -> Played
+    requires { ⌜ at < 468 ⌝ }
+{
+    let from = at * 6;
+    let wait = little_endian(
+        plan[from + 2],
+        plan[from + 3],
+        plan[from + 4],
+        plan[from + 5],
+    );
+    let rec = played.rec;
+    let outcome = transfer(rec, memory, plan[from], plan[from + 1], wait);
+    let answer = outcome.answer;
+    let next = outcome.rec;
+    Played {
+        rec: next,
+        sent: std::num::wrapping_add_u64(played.sent, 1),
+        refused: played.refused || number(answer) == 4,
+    }
+}
+
+// The first records of the plan, as many as this.
+fn play(plan: &[u8; 2808], count: usize, memory: &mut [u8; 144], played: Played) -> Played
+    requires { ⌜ count ≤ 468 ⌝ }
+{
+    let mut next = played;
+    let mut at = 0;
+    while at < count {
+        next = send(plan, at, memory, next);
+        at += 1;
+    }
+    next
+}
+
+// A run from its start to the end of the whole plan, and what is to be said of it.
+pub fn play_run(plan: &[u8; 2808], count: usize, run: Run) -> Verdict
+    requires { ⌜ (count ≤ 468) × (run .first ≤ 468) × (run .second ≤ 468) ⌝ }
+{
+    let mut memory = first_bytes();
+    let start = start_of(run.start);
+    let begun = Played {
+        rec: start,
+        sent: 0,
+        refused: false,
+    };
+    let cut = play(plan, run.first, &mut memory, begun);
+    let again = play(plan, run.second, &mut memory, cut);
+    let ended = play(plan, count, &mut memory, again);
+    judge(run.wish, excepted(start), ended, &memory)
+}
