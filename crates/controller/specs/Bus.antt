@@ -10,6 +10,7 @@ use Rattle.controller.specs.declared.decision.Answer.the-variants.{Done,
 use Rattle.controller.specs.declared.decision.Decision.{Decision}
 use Rattle.controller.specs.declared.decision.Effect.the-variants.{Blank}
 use Rattle.controller.specs.declared.decision.Outcome.{Outcome}
+use Rattle.controller.specs.declared.loan.Told.{Told}
 use Rattle.controller.specs.declared.«record».Half.{Half}
 use Rattle.controller.specs.declared.«record».Half.the-variants.{Empty, InstructionWrite, DataWrite, StatusRead, DataRead}
 use Rattle.controller.specs.declared.«record».Record.{Record}
@@ -60,4 +61,10 @@ resetDecided rec mem = cond (whole mem) (record { answer = Done; byte = 0; rec =
 -- What `transfer` and `reset` promise of a decision: what is returned, and every byte of the memory.
 pub record Meets (d : Decision) (before : List ℕ) (returned : Outcome) (after : List ℕ) : Type 0 where
   pub told : returned ≡ outcomeOf d
+  pub memory : after ≡ performed (d .effect) before
+
+-- What `transfer_in` promises of a decision: what is told, the record left in the loan, and every byte of the memory.
+pub record MeetsIn (d : Decision) (before : List ℕ) (returned : Told) (lent : Record) (after : List ℕ) : Type 0 where
+  pub told : returned ≡ record { answer = d .answer; byte = d .byte }
+  pub left : lent ≡ d .rec
   pub memory : after ≡ performed (d .effect) before

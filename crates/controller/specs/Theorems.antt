@@ -12,9 +12,10 @@ use Rattle.controller.specs.declared.decision.Answer.{Answer}
 use Rattle.controller.specs.declared.decision.Answer.the-variants.{NotWhole}
 use Rattle.controller.specs.declared.decision.Decision.{Decision}
 use Rattle.controller.specs.declared.decision.Outcome.{Outcome}
+use Rattle.controller.specs.declared.loan.Told.{Told}
 use Rattle.controller.specs.declared.«record».Half.the-variants.{Empty}
 use Rattle.controller.specs.declared.«record».Record.{Record}
-use Rattle.controller.specs.Bus.{whole, decided, resetDecided, Meets}
+use Rattle.controller.specs.Bus.{whole, decided, resetDecided, Meets, MeetsIn}
 use Rattle.controller.specs.Cells.{wrapped, lineLength, cellOfAdd, addOfCell}
 use Rattle.controller.specs.Decision.{numberOf, isRefusal, refused, Fits}
 use Rattle.controller.specs.Execute.{shortTime, longTime}
@@ -85,6 +86,12 @@ abbrev pub OneReset : Type 0
 OneReset =
     (rec : Record) (mem : List ℕ) (a b : Outcome) (x y : List ℕ)
     → Meets (resetDecided rec mem) mem a x → Meets (resetDecided rec mem) mem b y → (a ≡ b) × (x ≡ y)
+
+-- The same of a loan: what is told, the record left in it, and the memory.
+abbrev pub OneTransferIn : Type 0
+OneTransferIn =
+    (rec : Record) (mem : List ℕ) (kind byte wait : ℕ) (a b : Told) (u v : Record) (x y : List ℕ)
+    → MeetsIn (decided rec mem kind byte wait) mem a u x → MeetsIn (decided rec mem kind byte wait) mem b v y → (a ≡ b) × (u ≡ v) × (x ≡ y)
 
 -- Of the functions that return one value: two values that are both what was promised are one.
 abbrev pub OneSoundness : Type 0

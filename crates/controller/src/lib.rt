@@ -8,6 +8,7 @@ mod decision;
 mod execute;
 mod halves;
 mod instruction;
+mod loan;
 mod record;
 
 pub use bus::reset;
@@ -21,6 +22,8 @@ pub use decision::Outcome;
 pub use decision::number;
 pub use execute::long_time;
 pub use execute::short_time;
+pub use loan::Told;
+pub use loan::transfer_in;
 pub use record::Control;
 pub use record::Entry;
 pub use record::Function;

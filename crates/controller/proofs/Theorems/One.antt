@@ -1,7 +1,7 @@
 -- No second answer fits: what two equations with one side in common leave of two answers.
 -- Assumes nothing.
 use mathlib.Core.Path.{_≡_, sym, _∙_}
-use Rattle.controller.specs.Theorems.{OneTransfer, OneReset, OneSoundness, OneNumber, OneLineLength, OneShortTime, OneLongTime}
+use Rattle.controller.specs.Theorems.{OneTransfer, OneReset, OneTransferIn, OneSoundness, OneNumber, OneLineLength, OneShortTime, OneLongTime}
 
 -- two things that are both what was promised are one
 pub one : {A : Type 0} (promised a b : A) → a ≡ promised → b ≡ promised → a ≡ b
@@ -13,6 +13,10 @@ one-transfer rec mem kind byte wait a b x y is also =
 
 pub one-reset : OneReset
 one-reset rec mem a b x y is also = (one _ a b (is .told) (also .told), one _ x y (is .memory) (also .memory))
+
+pub one-transfer-in : OneTransferIn
+one-transfer-in rec mem kind byte wait a b u v x y is also =
+    (one _ a b (is .told) (also .told), one _ u v (is .left) (also .left), one _ x y (is .memory) (also .memory))
 
 pub one-soundness : OneSoundness
 one-soundness rec a b is also = one _ a b is also
