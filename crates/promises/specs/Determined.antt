@@ -13,6 +13,7 @@ use Rattle.controller.specs.Execute.{shortTime, longTime}
 use Rattle.controller.specs.Record.{sound}
 use Rattle.controller.specs.declared.decision.Answer.{Answer}
 use Rattle.controller.specs.declared.decision.Outcome.{Outcome}
+use Rattle.controller.specs.declared.loan.Told.{Told}
 use Rattle.controller.specs.declared.«record».Record.{Record}
 use Rattle.glass.specs.Picture.{Pictured}
 use Rattle.lines.specs.Reading.{lineOf}
@@ -34,6 +35,8 @@ ExactlyOne {A} Fits = (a : A) × Fits a × ((b : A) → Fits b → b ≡ a)
 pub record EachDetermined : Type 0 where
   pub transfer : (rec : Record) (mem : List ℕ) (kind byte wait : ℕ)
       → ExactlyOne (λ (x : Outcome × List ℕ). Rattle.controller.specs.Bus.Meets (decided rec mem kind byte wait) mem (x .0) (x .1))
+  pub transfer-in : (rec : Record) (mem : List ℕ) (kind byte wait : ℕ)
+      → ExactlyOne (λ (x : Told × Record × List ℕ). Rattle.controller.specs.Bus.MeetsIn (decided rec mem kind byte wait) mem (x .0) (x .1) (x .2))
   pub reset : (rec : Record) (mem : List ℕ)
       → ExactlyOne (λ (x : Outcome × List ℕ). Rattle.controller.specs.Bus.Meets (resetDecided rec mem) mem (x .0) (x .1))
   pub is-sound : (rec : Record) → ExactlyOne (λ (x : Bool). x ≡ sound rec)
