@@ -114,6 +114,7 @@ fn play_wish(out: &mut [u8; 2048], wish: u8, total: Tally) -> Tally {
     join(total, told)
 }
 
+// Every wish in turn.
 fn play_wishes(out: &mut [u8; 2048], tally: Tally) -> Tally {
     let mut next = tally;
     let mut wish = 0;
@@ -124,6 +125,7 @@ fn play_wishes(out: &mut [u8; 2048], tally: Tally) -> Tally {
     next
 }
 
+// The first bytes of the buffer, as many as this.
 fn write_first(out: &[u8], length: usize) {
     if out.len() < length {
         return;

@@ -27,12 +27,13 @@ fn put_number(out: &mut [u8; 2048], at: usize, n: u64) -> usize {
     put_text(out, at, &digits[..length])
 }
 
-// A name and a number, with blanks before them.
+// A name and the number that follows it.
 fn put_count(out: &mut [u8; 2048], at: usize, name: &[u8], n: u64) -> usize {
     let named = put_text(out, at, name);
     put_number(out, named, n)
 }
 
+// The report goes on from here.
 fn move_to(tally: Tally, at: usize) -> Tally {
     let mut next = tally;
     next.at = at;
@@ -77,18 +78,13 @@ pub fn put_wrong(out: &mut [u8; 2048], tally: Tally, run: Run, fault: Fault) -> 
     move_to(tally, put_run(out, tally.at, run, fault))
 }
 
-// Runs and transfers, and what they were found to be.
-fn put_counts(out: &mut [u8; 2048], at: usize, tally: Tally) -> usize {
-    let runs = put_count(out, at, b"  runs ", tally.runs);
-    put_count(out, runs, b"  transfers ", tally.transfers)
-}
-
 // The line of a wish.
 pub fn put_wish(out: &mut [u8; 2048], wish: u8, count: usize, tally: Tally) -> Tally {
     let named = put_count(out, tally.at, b"wish ", wish as u64);
     let planned = put_count(out, named, b"  records ", count as u64);
-    let counted = put_counts(out, planned, tally);
-    move_to(tally, put_byte(out, counted, b'\n'))
+    let runs = put_count(out, planned, b"  runs ", tally.runs);
+    let transfers = put_count(out, runs, b"  transfers ", tally.transfers);
+    move_to(tally, put_byte(out, transfers, b'\n'))
 }
 
 // The last line.

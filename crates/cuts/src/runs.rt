@@ -28,12 +28,12 @@ pub struct Played {
     pub refused: bool,
 }
 
-// No plan has more than 468 records.
+// No plan has more than 468 records. A longer one would not be played at all, so that every run of it is wrong.
 fn limit(count: usize) -> usize
     ensures { λ r. ⌜ r ≤ 468 ⌝ }
 {
     if 468 < count {
-        return 468;
+        return 0;
     }
     count
 }
@@ -48,6 +48,7 @@ pub fn lay_out(wish: u8, plan: &mut [u8; 2808]) -> usize
     limit(planned.count)
 }
 
+// The wait of a record, from its four bytes.
 fn little_endian(a: u8, b: u8, c: u8, d: u8) -> u32 {
     a as u32 + b as u32 * 256 + c as u32 * 65_536 + d as u32 * 16_777_216
 }

@@ -29,8 +29,8 @@ fn after_reset() -> Record {
     }
 }
 
-// A record with all that a plan has to undo: S=1, which shifts the display at each data write, I/D=0, the display on, and
-// a shift that is the last one.
+// A record with all that a plan has to undo: S=1, which shifts the display at each data write, I/D=0, the display on,
+// and the last shift.
 fn unruly(wide: bool, counter: Counter, fresh: bool, busy: u32, half: Half) -> Record {
     Record {
         wide,
@@ -55,14 +55,17 @@ fn halved(counter: Counter, fresh: bool, half: Half) -> Record {
     unruly(false, counter, fresh, 0, half)
 }
 
+// An instruction with these high four bits.
 fn instruction_halved(high: u8) -> Record {
     halved(Counter::Display(0), true, Half::InstructionWrite(high))
 }
 
+// A data write of 4h and whatever comes, into the counter's cell.
 fn write_halved(counter: Counter) -> Record {
     halved(counter, false, Half::DataWrite(4))
 }
 
+// At busy's upper limit, which only a status read may meet.
 fn status_halved(byte: u8) -> Record {
     unruly(
         false,
@@ -73,6 +76,7 @@ fn status_halved(byte: u8) -> Record {
     )
 }
 
+// A data read that took the register's byte, fresh or stale.
 fn read_halved(fresh: bool) -> Record {
     halved(Counter::Pattern(0), fresh, Half::DataRead(0xA5))
 }

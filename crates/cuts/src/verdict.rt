@@ -31,6 +31,7 @@ pub enum Fault {
     Cell(usize),
 }
 
+// What is to be said of a run, and how many transfers were sent in it.
 pub struct Verdict {
     pub fault: Fault,
     pub sent: u64,
@@ -179,6 +180,7 @@ fn refusal_fault(refused: bool) -> Fault {
     Fault::Nothing
 }
 
+// The run as it ended, against the wish and the start's excepted place.
 pub fn judge(wish: u8, excepted: usize, ended: Played, memory: &[u8; 144]) -> Verdict {
     let rec = ended.rec;
     let found = first_of(

@@ -1,4 +1,4 @@
--- `cuts::play_starts` is safe and ends: the measure is the starts that are left.
+-- `cuts::play_starts` meets its contract: the measure is the starts that are left.
 -- Assumes nothing.
 use Prim.Native.Nat.{_-_, _≤_}
 use borrow.Author.Needs.{needs}

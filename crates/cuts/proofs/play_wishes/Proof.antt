@@ -1,4 +1,4 @@
--- `cuts::play_wishes` is safe and ends: the measure is the wishes that are left.
+-- `cuts::play_wishes` meets its contract: the measure is the wishes that are left.
 -- Assumes nothing.
 use Prim.Native.Nat.{_-_, _≤_}
 use borrow.Author.Needs.{needs}

@@ -1,4 +1,4 @@
--- `cuts::write_first` is safe and ends: the part that is written lies within the buffer.
+-- `cuts::write_first` meets its contract: the part that is written lies within the buffer.
 -- Assumes nothing.
 use mathlib.Core.Path.{sym}
 use lib.Seq.{length-take-le}

@@ -1,4 +1,4 @@
--- `cuts::cells::first_bytes` is safe and ends: the measure is the cells that are left.
+-- `cuts::cells::first_bytes` meets its contract: the measure is the cells that are left.
 -- Assumes nothing.
 use Prim.Native.Nat.{_-_, _≤_}
 use borrow.Author.Needs.{needs}

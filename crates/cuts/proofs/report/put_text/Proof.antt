@@ -1,4 +1,4 @@
--- `cuts::report::put_text` is safe and ends: the measure is the bytes of the text that are left.
+-- `cuts::report::put_text` meets its contract: the measure is the bytes of the text that are left.
 -- Assumes nothing.
 use Prim.Native.Nat.{_-_, _≤_}
 use lib.ListN.{length}
