@@ -5,9 +5,11 @@ use mathlib.Core.List.{List, [], _∷_, _++_}
 use Prim.Native.Nat.{ℕ, zero, suc, _+_, _-_, _/_, _%_}
 use lib.Dec.{ltb, leb}
 
+-- The tab that parts two fields.
 abbrev pub tab : ℕ
 tab = 0x09
 
+-- The newline that ends a line.
 abbrev pub newline : ℕ
 newline = 0x0A
 
@@ -23,11 +25,12 @@ between first last byte = leb first byte && leb byte last
 unfoldable pub worthOf : ℕ → ℕ
 worthOf byte = cond (between 0x30 0x39 byte) (byte - 0x30) (cond (between 0x41 0x46 byte) (byte - 0x37) 16)
 
--- The decimal digits of a number without leading zeros. The first argument, above the number, only bounds the recursion.
+-- A number's digits above the last, then the last. The first argument, above the number, only bounds the recursion.
 unfoldable pub spelled : ℕ → ℕ → List ℕ
 spelled zero number = []
 spelled (suc k) number = cond (ltb number 10) (digit number ∷ []) (spelled k (number / 10) ++ (digit (number % 10) ∷ []))
 
+-- A number in decimal, without leading zeros.
 unfoldable pub decimal : ℕ → List ℕ
 decimal number = spelled (suc number) number
 

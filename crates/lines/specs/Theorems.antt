@@ -88,5 +88,6 @@ LinesFit = (kind byte wait : ℕ) → wait ≤ waitLimit → length (line kind b
 abbrev pub OneWriting : Type 0
 OneWriting = (w : Writing) (out : List ℕ) (a b : Written) (x y : List ℕ) → Meets w out a x → Meets w out b y → (a ≡ b) × (x ≡ y)
 
+-- And two lines that both are what the reader promises are one.
 abbrev pub OneRead : Type 0
 OneRead = (text : List ℕ) (a b : Line) → a ≡ lineOf text → b ≡ lineOf text → a ≡ b

@@ -43,5 +43,6 @@ readUpTo (suc k) (byte ∷ rest) =
     (following (sentOf (lineOf (byte ∷ rest))) (readUpTo k (drop (lineOf (byte ∷ rest) .length) (byte ∷ rest))))
     (ending (lineOf (byte ∷ rest) .answer))
 
+-- A session's text, line by line.
 unfoldable pub sessionOf : List ℕ → Session
 sessionOf text = readUpTo (length text) text
