@@ -18,17 +18,18 @@ two Fits promised left fits only = ((promised, left), fits, λ x is i. (only (x 
 three : {A B : Type 0} (Fits : A → B → List ℕ → Type 0) (promised : A) (lent : B) (left : List ℕ) → Fits promised lent left
     → ((a : A) (b : B) (l : List ℕ) → Fits a b l → (a ≡ promised) × (b ≡ lent) × (l ≡ left))
     → ExactlyOne (λ (x : A × B × List ℕ). Fits (x .0) (x .1) (x .2))
-three Fits promised lent left fits only =
-    ( (promised, lent, left)
-    , fits
-    , λ x is i. (only (x .0) (x .1) (x .2) is .0 i, only (x .0) (x .1) (x .2) is .1 i, only (x .0) (x .1) (x .2) is .2 i))
+three Fits promised lent left fits only = (
+  (promised, lent, left),
+  fits,
+  λ x is i. (only (x .0) (x .1) (x .2) is .0 i, only (x .0) (x .1) (x .2) is .1 i, only (x .0) (x .1) (x .2) is .2 i),
+)
 
 pub each-determined : EachDetermined
 each-determined =
     record {
       transfer = λ rec mem kind byte wait. two _ _ _ (record { told = refl; memory = refl }) (λ a l is. (is .told, is .memory));
       transfer-in = λ rec mem kind byte wait.
-        three _ _ _ _ (record { told = refl; left = refl; memory = refl }) (λ a b l is. (is .told, is .left, is .memory));
+          three _ _ _ _ (record { told = refl; left = refl; memory = refl }) (λ a b l is. (is .told, is .left, is .memory));
       reset = λ rec mem. two _ _ _ (record { told = refl; memory = refl }) (λ a l is. (is .told, is .memory));
       is-sound = λ rec. one _;
       number = λ answer. one _;
