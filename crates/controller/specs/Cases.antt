@@ -1,5 +1,6 @@
 -- The bench cases of document 01 that are about one controller: P1, P2, P3, P4, P6, P8, P9, P10, and the transfers of P11.
--- What a case leaves open is any: the memory, and of the record all that the case does not name.
+-- What a case leaves open is any: the memory, and of the record all that the case does not name. P2, P3, P4 and P6 name no
+-- width and are stated of one transfer at width 8.
 -- Assumes nothing.
 use mathlib.Core.Bool.{Bool, true, false}
 use mathlib.Core.List.{List, [], _∷_}
@@ -9,17 +10,17 @@ use lib.ListN.{length, getD}
 use Rattle.controller.specs.declared.cells.Counter.{Counter}
 use Rattle.controller.specs.declared.cells.Counter.the-variants.{Display, Pattern}
 use Rattle.controller.specs.declared.decision.Answer.{Answer}
-use Rattle.controller.specs.declared.decision.Answer.the-variants.{Done, FirstHalf, NoCell, CrossedHalves}
+use Rattle.controller.specs.declared.decision.Answer.the-variants.{Done, NoCell, CrossedHalves}
 use Rattle.controller.specs.declared.decision.Effect.the-variants.{Keep}
 use Rattle.controller.specs.declared.«record».Half.{Half}
 use Rattle.controller.specs.declared.«record».Half.the-variants.{Empty, InstructionWrite, DataWrite}
 use Rattle.controller.specs.declared.«record».Record.{Record}
-use Rattle.controller.specs.Bus.{decided}
+use Rattle.controller.specs.Bus.{decided, resetDecided}
 use Rattle.controller.specs.Cells.{addressOf, placeOf}
-use Rattle.controller.specs.Decision.{performed, done}
+use Rattle.controller.specs.Decision.{numberOf, performed, done}
 use Rattle.controller.specs.Execute.{homed, longTime}
-use Rattle.controller.specs.Record.{resetRecord, sound, waited, withHalf}
-use Rattle.controller.specs.Runs.{State, Sent, Told, heard}
+use Rattle.controller.specs.Record.{sound, waited, withHalf}
+use Rattle.controller.specs.Runs.{State, Sent, Told, decidedOf, after, ran, heard}
 
 -- A sound controller with its memory whole, of this width, with this half waiting, whose busy time this wait covers.
 pub record Waits (rec : Record) (mem : List ℕ) (wide : Bool) (half : Half) (wait : ℕ) : Type 0 where
@@ -29,26 +30,34 @@ pub record Waits (rec : Record) (mem : List ℕ) (wide : Bool) (half : Half) (wa
   pub holds : rec .half ≡ half
   pub over : rec .busy ≤ wait
 
+-- A controller after reset.
+abbrev pub afterReset : Record → List ℕ → State
+afterReset rec mem = after (record { rec = rec; mem = mem }) (resetDecided rec mem)
+
+-- A status read after this wait.
+abbrev pub statusRead : ℕ → Sent
+statusRead wait = record { kind = 2; byte = 0x00; wait = wait }
+
 -- P1: reset, status read: wait 9,999 gives 80h, wait 10,000 gives 00h.
 abbrev pub P1 : Type 0
 P1 =
-    (mem : List ℕ) → length mem ≡ 144
-    → (decided resetRecord mem 2 0 9999 .byte ≡ 0x80) × (decided resetRecord mem 2 0 10000 .byte ≡ 0x00)
+    (rec : Record) (mem : List ℕ) → length mem ≡ 144
+    → (decidedOf (afterReset rec mem) (statusRead 9999) .byte ≡ 0x80) × (decidedOf (afterReset rec mem) (statusRead 10000) .byte ≡ 0x00)
 
--- From this address a data write with I/D=1 leads to that one.
-abbrev pub WriteLeads : Bool → Counter → ℕ → ℕ → Type 0
-WriteLeads n counter from to =
+-- A data write with I/D=1 leads from this counter, at this address, to that one.
+abbrev pub WriteLeads : Bool → Counter → ℕ → Counter → ℕ → Type 0
+WriteLeads n counter from next to =
     (rec : Record) (mem : List ℕ) (byte wait : ℕ) → Waits rec mem true Empty wait
     → rec .function .n ≡ n → rec .entry .id ≡ true → rec .counter ≡ counter
-    → (addressOf n counter ≡ from) × (addressOf n (decided rec mem 1 byte wait .rec .counter) ≡ to)
+    → (addressOf n counter ≡ from) × (decided rec mem 1 byte wait .rec .counter ≡ next) × (addressOf n next ≡ to)
 
 -- P2: N=1, counter 27h, write, I/D=1: counter 40h.
 abbrev pub P2 : Type 0
-P2 = WriteLeads true (Display 39) 0x27 0x40
+P2 = WriteLeads true (Display 39) 0x27 (Display 40) 0x40
 
 -- P3: the same at 67h gives 00h; N=0 at 4Fh gives 00h.
 abbrev pub P3 : Type 0
-P3 = WriteLeads true (Display 79) 0x67 0x00 × WriteLeads false (Display 79) 0x4F 0x00
+P3 = WriteLeads true (Display 79) 0x67 (Display 0) 0x00 × WriteLeads false (Display 79) 0x4F (Display 0) 0x00
 
 -- This instruction is answered so, with this N.
 abbrev pub Answers : Bool → ℕ → Answer → Type 0
@@ -63,15 +72,19 @@ P4 =
 
 -- P6: pattern counter 3Fh, write, I/D=1: 00h.
 abbrev pub P6 : Type 0
-P6 = (n : Bool) → WriteLeads n (Pattern 63) 0x3F 0x00
+P6 = (n : Bool) → WriteLeads n (Pattern 63) 0x3F (Pattern 0) 0x00
+
+-- A data write after this wait.
+abbrev pub dataWrite : ℕ → ℕ → Sent
+dataWrite byte wait = record { kind = 1; byte = byte; wait = wait }
 
 -- P8: width 4, data halves 40h, 10h: cell gets 41h.
 abbrev pub P8 : Type 0
 P8 =
     (rec : Record) (mem : List ℕ) (wait later : ℕ) → Waits rec mem false Empty wait
-    → (decided rec mem 1 0x40 wait .answer ≡ FirstHalf)
-    × (decided (decided rec mem 1 0x40 wait .rec) mem 1 0x10 later .answer ≡ Done)
-    × (getD (performed (decided (decided rec mem 1 0x40 wait .rec) mem 1 0x10 later .effect) mem) (placeOf (rec .counter)) 0 ≡ 0x41)
+    → (numberOf (decidedOf (record { rec = rec; mem = mem }) (dataWrite 0x40 wait) .answer) ≡ 5)
+    × (numberOf (decidedOf (ran (record { rec = rec; mem = mem }) (dataWrite 0x40 wait ∷ [])) (dataWrite 0x10 later) .answer) ≡ 0)
+    × (getD (ran (record { rec = rec; mem = mem }) (dataWrite 0x40 wait ∷ dataWrite 0x10 later ∷ []) .mem) (placeOf (rec .counter)) 0 ≡ 0x41)
 
 -- P9: half instruction 0h waiting, then 30h: Home, answer 0.
 abbrev pub P9 : Type 0
@@ -86,18 +99,22 @@ P10 =
     → (decided rec mem 0 0x30 wait .answer ≡ CrossedHalves)
     × (getD (performed (decided rec mem 0 0x30 wait .effect) mem) (placeOf (rec .counter)) 0 ≡ 0x43)
 
--- P11: six transfers from reset, and what is told of each.
-abbrev pub P11 : Type 0
-P11 =
-    (mem : List ℕ) → length mem ≡ 144
-    → heard (record { rec = resetRecord; mem = mem })
-    (record { kind = 0; byte = 0x38; wait = 15000 }
+-- P11: six transfers from reset,
+abbrev pub sentIn11 : List Sent
+sentIn11 =
+    record { kind = 0; byte = 0x38; wait = 15000 }
     ∷ record { kind = 2; byte = 0x00; wait = 0 }
     ∷ record { kind = 1; byte = 0x41; wait = 10 }
     ∷ record { kind = 1; byte = 0x41; wait = 30 }
     ∷ record { kind = 2; byte = 0x00; wait = 40 }
     ∷ record { kind = 3; byte = 0x00; wait = 0 }
-    ∷ [])
+    ∷ []
+
+-- and what is told of each.
+abbrev pub P11 : Type 0
+P11 =
+    (rec : Record) (mem : List ℕ) → length mem ≡ 144
+    → heard (afterReset rec mem) sentIn11
     ≡ record { answer = 0; byte = 0x00; busy = 40 }
     ∷ record { answer = 0; byte = 0x80; busy = 40 }
     ∷ record { answer = 4; byte = 0x00; busy = 30 }

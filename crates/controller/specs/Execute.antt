@@ -71,7 +71,7 @@ executed mem (SetFunction wide function) rec = changed (withFunction wide functi
 executed mem (PatternAddress acg) rec = changed (loaded mem (Pattern (cellOfAcg acg)) rec)
 executed mem (DisplayAddress add) rec = addressed mem (cellOfAdd (rec .function .n) add) rec
 
--- The shift that a data write leaves: in display memory with S=1 it moves, +1 if I/D=1, else -1.
+-- The record with the shift that a data write leaves: in display memory with S=1 it moves, +1 if I/D=1, else -1.
 unfoldable pub carried : Counter → Record → Record
 carried (Display cell) rec = cond (rec .entry .s) (shifted (rec .entry .id) rec) rec
 carried (Pattern cell) rec = rec

@@ -49,7 +49,7 @@ resetRecord =
       half = Empty;
     }
 
--- The record with one thing changed and all else as it was.
+-- The record with what is named changed and all else as it was.
 abbrev pub withFunction : Bool → Function → Record → Record
 withFunction wide function r =
     record { wide = wide; function = function; control = r .control; entry = r .entry; shift = r .shift; counter = r .counter; reg = r .reg; fresh = r .fresh; busy = r .busy; half = r .half }

@@ -29,7 +29,7 @@ unfoldable pub Given : ℕ → List Row → Type 0
 Given n [] = n ≡ 0
 Given n (row ∷ rows) = ((row .applies ≡ true) × (row .number ≡ n)) ⊎ ((row .applies ≡ false) × Given n rows)
 
--- The transfer that is complete now, if one is, passes this test: at width 8 its own, at width 4 the one that waited.
+-- The half that waits, completed by this byte, passes this test; where none waits none passes.
 unfoldable pub secondIs : (Transfer → Bool) → ℕ → Half → Bool
 secondIs test byte Empty = false
 secondIs test byte (InstructionWrite high) = test (Instruct (high * 16 + byte / 16))
@@ -37,6 +37,7 @@ secondIs test byte (DataWrite high) = test (Write (high * 16 + byte / 16))
 secondIs test byte (StatusRead taken) = test (Status taken)
 secondIs test byte (DataRead taken) = test (Read taken)
 
+-- The transfer that is complete now, if one is, passes this test: at width 8 its own, at width 4 the one that waited.
 unfoldable pub completeIs : (Record → Transfer → Bool) → ℕ → ℕ → Record → Bool
 completeIs test kind byte rec = cond (rec .wide) (test rec (begun kind byte rec)) (secondIs (test rec) byte (rec .half))
 

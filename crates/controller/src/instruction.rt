@@ -30,6 +30,37 @@ fn has(worth: u8, byte: u8) -> bool
     byte / worth % 2 == 1
 }
 
+// The bits of Function Set below DL: N and F.
+fn function_of(byte: u8) -> Function
+    ensures { λ r. ⌜ r ≡ record { n = bit 0x08 byte; f = bit 0x04 byte } ⌝ }
+{
+    Function {
+        n: has(0x08, byte),
+        f: has(0x04, byte),
+    }
+}
+
+// The bits of Display Control: D, C and B.
+fn control_of(byte: u8) -> Control
+    ensures { λ r. ⌜ r ≡ record { d = bit 0x04 byte; c = bit 0x02 byte; b = bit 0x01 byte } ⌝ }
+{
+    Control {
+        d: has(0x04, byte),
+        c: has(0x02, byte),
+        b: has(0x01, byte),
+    }
+}
+
+// The bits of Entry Mode: I/D and S.
+fn entry_of(byte: u8) -> Entry
+    ensures { λ r. ⌜ r ≡ record { id = bit 0x02 byte; s = bit 0x01 byte } ⌝ }
+{
+    Entry {
+        id: has(0x02, byte),
+        s: has(0x01, byte),
+    }
+}
+
 // The instruction by its highest set bit, from the table's last row to its first.
 pub fn decode(byte: u8) -> Instruction
     ensures { λ r. ⌜ r ≡ decoded byte ⌝ }
@@ -41,13 +72,7 @@ pub fn decode(byte: u8) -> Instruction
         return Instruction::PatternAddress(Acg(byte - 0x40));
     }
     if 0x20 <= byte {
-        return Instruction::SetFunction(
-            has(0x10, byte),
-            Function {
-                n: has(0x08, byte),
-                f: has(0x04, byte),
-            },
-        );
+        return Instruction::SetFunction(has(0x10, byte), function_of(byte));
     }
     if 0x10 <= byte {
         if has(0x08, byte) {
@@ -56,17 +81,10 @@ pub fn decode(byte: u8) -> Instruction
         return Instruction::MoveCursor(has(0x04, byte));
     }
     if 0x08 <= byte {
-        return Instruction::SetControl(Control {
-            d: has(0x04, byte),
-            c: has(0x02, byte),
-            b: has(0x01, byte),
-        });
+        return Instruction::SetControl(control_of(byte));
     }
     if 0x04 <= byte {
-        return Instruction::SetEntry(Entry {
-            id: has(0x02, byte),
-            s: has(0x01, byte),
-        });
+        return Instruction::SetEntry(entry_of(byte));
     }
     if 0x02 <= byte {
         return Instruction::Home;

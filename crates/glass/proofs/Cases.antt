@@ -2,7 +2,7 @@
 -- Assumes nothing.
 use mathlib.Core.Bool.{Bool, true, false, cond}
 use mathlib.Core.List.{List}
-use mathlib.Core.Path.{_≡_, refl, sym, ap, fun-ext, _∙_}
+use mathlib.Core.Path.{_≡_, refl, sym, ap, subst, fun-ext, _∙_}
 use Prim.Native.Nat.{ℕ, _+_, _*_, _%_, _<_}
 use native.Mathlib.Omega.{arith}
 use borrow.Author.Tests.{eqb-true, eqb-false, ltb-true, ltb-false}
@@ -10,18 +10,36 @@ use lib.Dec.{ltb, eqb}
 use lib.ListN.{length, getD, set, length-set}
 use lib.Seq.{getD-set-same, getD-set-other, set-out}
 use Rattle.controller.specs.declared.«record».Record.{Record}
-use Rattle.controller.specs.Bus.{whole}
+use Rattle.controller.proofs.Theorems.Cases.{taken-wide}
+use Rattle.controller.specs.Bus.{whole, badTransfer, decided}
+use Rattle.controller.specs.Cases.{Waits}
+use Rattle.controller.specs.Execute.{shifted, changed, completed, executed}
+use Rattle.controller.specs.Halves.{begun}
+use Rattle.controller.specs.Instruction.{decoded, bit}
+use Rattle.controller.specs.Record.{waited}
+use Rattle.controller.specs.declared.decision.Decision.{Decision}
+use Rattle.controller.specs.declared.«record».Half.the-variants.{Empty}
 use Rattle.controller.specs.Cells.{addOfCell, lineLength, wrapped}
 use Rattle.glass.specs.declared.geometry.Shown.{Shown}
 use Rattle.glass.specs.declared.geometry.Shown.the-variants.{Cell, Undriven}
-use Rattle.glass.specs.Cases.{P5, P7}
+use Rattle.glass.specs.Cases.{LinesStart, P5, P7}
 use Rattle.glass.specs.Font.{font}
 use Rattle.glass.specs.Geometry.{cellIn, drivenLines}
 use Rattle.glass.specs.Picture.{answered, byteAt, cellRow, covered, dotsAt, output, patternRow, rowOf, shownRow}
 
+-- what 18h and 1Ch do
+shift-taken : (rec : Record) (mem : List ℕ) (wait : ℕ) (left : Bool) → Waits rec mem true Empty wait
+    → decided rec mem 0 (cond left 0x18 0x1C) wait ≡ changed (shifted left (waited wait rec))
+unfolding badTransfer begun completed executed decoded bit
+shift-taken rec mem wait true w = taken-wide rec mem Empty 0 0x18 wait w refl
+shift-taken rec mem wait false w = taken-wide rec mem Empty 0 0x1C wait w refl
+
 pub p5 : P5
 unfolding cellIn drivenLines lineLength wrapped addOfCell
-p5 rec n s = rw (n, s) ((refl, refl), (refl, refl))
+p5 rec mem wait w n s = (
+  subst (λ (d : Decision). LinesStart (d .rec) 0x01 0x41) (sym (shift-taken rec mem wait true w)) (rw (n, s) (refl, refl)),
+  subst (λ (d : Decision). LinesStart (d .rec) 0x27 0x67) (sym (shift-taken rec mem wait false w)) (rw (n, s) (refl, refl)),
+)
 
 -- With 08h for 00h in a display cell: no pattern changes, and no cell shows another row.
 rows-08 : (shapes mem : List ℕ) (row : ℕ) → rowOf shapes mem 0x00 row ≡ rowOf shapes mem 0x08 row

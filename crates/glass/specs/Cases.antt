@@ -5,9 +5,11 @@ use mathlib.Core.List.{List}
 use mathlib.Core.Path.{_≡_}
 use Prim.Native.Nat.{ℕ, _<_}
 use lib.ListN.{getD, set}
+use Rattle.controller.specs.declared.«record».Half.the-variants.{Empty}
 use Rattle.controller.specs.declared.«record».Record.{Record}
+use Rattle.controller.specs.Bus.{decided}
 use Rattle.controller.specs.Cells.{addOfCell}
-use Rattle.controller.specs.Execute.{shifted}
+use Rattle.controller.specs.Cases.{Waits}
 use Rattle.glass.specs.declared.geometry.Shown.{Shown}
 use Rattle.glass.specs.declared.geometry.Shown.the-variants.{Cell, Undriven}
 use Rattle.glass.specs.Geometry.{cellAt}
@@ -24,11 +26,11 @@ LinesStart rec first second =
     ShowsAddress (rec .function .n) (cellAt (rec .function .n) (rec .shift) 0 0) first
     × ShowsAddress (rec .function .n) (cellAt (rec .function .n) (rec .shift) 1 0) second
 
--- P5: N=1, one left shift: lines start at 01h and 41h; one right shift instead: 27h and 67h.
+-- P5: N=1, one left shift (18h): lines start at 01h and 41h; one right shift (1Ch) instead: 27h and 67h.
 abbrev pub P5 : Type 0
 P5 =
-    (rec : Record) → rec .function .n ≡ true → rec .shift ≡ 0
-    → (LinesStart (shifted true rec) 0x01 0x41) × (LinesStart (shifted false rec) 0x27 0x67)
+    (rec : Record) (mem : List ℕ) (wait : ℕ) → Waits rec mem true Empty wait → rec .function .n ≡ true → rec .shift ≡ 0
+    → (LinesStart (decided rec mem 0 0x18 wait .rec) 0x01 0x41) × (LinesStart (decided rec mem 0 0x1C wait .rec) 0x27 0x67)
 
 -- P7: codes 00h and 08h draw alike, row by row; and with 08h for 00h in a display cell every picture is the same.
 abbrev pub P7 : Type 0

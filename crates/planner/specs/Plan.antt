@@ -12,7 +12,7 @@ use Rattle.controller.specs.Runs.{Sent}
 use Rattle.planner.specs.declared.wish.Wish.{Wish}
 use Rattle.planner.specs.Wish.{marked, follows}
 
--- An instruction byte as a single transfer.
+-- An instruction byte as it is sent, alone or as a half.
 abbrev pub single : ℕ → ℕ → Sent
 single byte wait = record { kind = 0; byte = byte; wait = wait }
 

@@ -10,16 +10,15 @@ use lib.ListN.{length, getD, drop, replicate}
 use Rattle.controller.specs.Bus.{whole}
 use Rattle.controller.specs.Cells.{lineLength}
 use Rattle.controller.specs.Decision.{numberOf}
-use Rattle.controller.specs.Record.{resetRecord, sound, withFunction, withHalf}
+use Rattle.controller.specs.Record.{sound}
 use Rattle.controller.specs.Rows.{Row, Given}
 use Rattle.controller.specs.Runs.{State, Sent, ran}
 use Rattle.controller.specs.declared.decision.Answer.the-variants.{Done}
-use Rattle.controller.specs.declared.«record».Half.the-variants.{DataWrite}
 use Rattle.planner.specs.declared.bus.Planned.{Planned}
 use Rattle.planner.specs.declared.wish.Wish.{Wish}
 use Rattle.planner.specs.Bus.{replyTo, wanted, turnedDown, Meets}
-use Rattle.planner.specs.Demand.{Bytes}
-use Rattle.planner.specs.Plan.{planOf}
+use Rattle.planner.specs.Demand.{Bytes, excepted}
+use Rattle.planner.specs.Plan.{single, planOf}
 use Rattle.planner.specs.Wish.{isWish, marked}
 
 -- The rows of plan in their order.
@@ -94,22 +93,18 @@ fullWish =
 abbrev pub Reaches468 : Type 0
 Reaches468 = (isWish fullWish (all 1) ≡ true) × (length (planOf fullWish (all 1) (all 0)) ≡ 468)
 
--- An instruction's half, as it is planned.
-abbrev pub half : ℕ → ℕ → Sent
-half byte wait = record { kind = 0; byte = byte; wait = wait }
-
 -- P12: 18 records, with these instruction bytes and waits.
 abbrev pub P12 : Type 0
 P12 =
     (values : List ℕ)
     → planOf plainWish (all 0) values
-    ≡ half 0x30 15000 ∷ half 0x30 4100 ∷ half 0x30 100 ∷ half 0x20 100 ∷ half 0x20 100 ∷ half 0x80 1 ∷ half 0x00 40 ∷ half 0x80 1 ∷ half 0x00 40
-    ∷ half 0x60 1 ∷ half 0x00 40 ∷ half 0x20 1 ∷ half 0x00 1640 ∷ half 0x60 1 ∷ half 0x80 40 ∷ half 0x00 1 ∷ half 0x00 40 ∷ half 0xC0 1 ∷ []
+    ≡ single 0x30 15000 ∷ single 0x30 4100 ∷ single 0x30 100 ∷ single 0x20 100 ∷ single 0x20 100 ∷ single 0x80 1 ∷ single 0x00 40 ∷ single 0x80 1 ∷ single 0x00 40
+    ∷ single 0x60 1 ∷ single 0x00 40 ∷ single 0x20 1 ∷ single 0x00 1640 ∷ single 0x60 1 ∷ single 0x80 40 ∷ single 0x00 1 ∷ single 0x00 40 ∷ single 0xC0 1 ∷ []
 
 -- The exception of demand 3 is needed: a data write half sent before, and the plan that names no cell alters its cell.
 abbrev pub ExceptionNeeded : Type 0
 ExceptionNeeded =
-    (start : State) × (sound (start .rec) ≡ true) × (length (start .mem) ≡ 144)
+    (start : State) × (sound (start .rec) ≡ true) × (length (start .mem) ≡ 144) × (excepted (start .rec) 0 ≡ true)
     × (getD (start .mem) 0 0 ≡ 0x20) × (getD (ran start (planOf plainWish (all 0) (all 0)) .mem) 0 0 ≡ 0x43)
 
 -- The record of six bytes at the start of a buffer, read as a transfer: kind, byte, wait little-endian.

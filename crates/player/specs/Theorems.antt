@@ -42,7 +42,7 @@ ReportTells = (ts : List Sent) → AllSayable ts → report (linesOf ts) ≡ hea
 abbrev pub SessionEnds : Type 0
 SessionEnds = (text : List ℕ) → (sessionOf text .end ≡ Done) ⊎ (sessionOf text .end ≡ BadLine)
 
--- A buffer of six bytes for each byte of the text and 62 more always serves.
+-- A buffer of six bytes for each byte of the text and 62 more always serves, for any text that a memory can hold.
 abbrev pub ReportFits : Type 0
 ReportFits = (text : List ℕ) → length text < 2 ^ 63 → length (report text) ≤ reportSize text
 

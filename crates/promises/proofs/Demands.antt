@@ -7,6 +7,7 @@ use Prim.Native.Nat.{ℕ}
 use lib.Dec.{ltb}
 use lib.ListN.{length}
 use Rattle.controller.proofs.Laws.Choice.{cond-elim}
+use Rattle.controller.proofs.Laws.Taken.{taken}
 use Rattle.controller.proofs.Theorems.Answers.{transfer-answers, reset-answers}
 use Rattle.controller.proofs.Theorems.Refusals.{transfer-refusals, reset-refusals}
 use Rattle.controller.proofs.Theorems.Sound.{transfer-keeps-sound, reset-makes-sound, effects-fit}
@@ -20,7 +21,7 @@ use Rattle.lines.specs.Writing.{Writing, onto, wanting, lineWriting}
 use Rattle.lines.specs.declared.writer.Written.{Written}
 use Rattle.planner.proofs.Demand.Theorem.{demand-3}
 use Rattle.planner.proofs.Theorems.Plan.{board-sends-plan}
-use Rattle.planner.proofs.Theorems.Wish.{plan-answers, plan-refusals}
+use Rattle.planner.proofs.Theorems.Wish.{not-wishes, plan-answers, plan-refusals}
 use Rattle.player.proofs.Theorems.One.{play-answers}
 use Rattle.player.specs.Report.{report, reportSize, playing}
 use Rattle.promises.proofs.Determined.{each-determined}
@@ -66,18 +67,21 @@ demand-1 =
     record {
       answers = each-determined;
       numbers = each-answer;
+      wishes = not-wishes;
       transfer = transfer-refusals;
       reset = reset-refusals;
       picture = picture-refusals;
       plan = plan-refusals;
       writer = λ kind byte wait out. leaves _ out (writer-nothing kind byte wait out);
+      texts = λ size text out. leaves _ out (wanting-nothing size text out);
       play = λ text out. leaves _ out (play-nothing text out);
     }
 
 pub demand-2 : Demand2
 demand-2 =
     record {
-      sound = transfer-keeps-sound;
+      taken = taken;
+      kept = transfer-keeps-sound;
       reset = reset-makes-sound;
       effects = effects-fit;
       dots = each-byte;

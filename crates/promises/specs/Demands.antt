@@ -3,14 +3,20 @@
 use mathlib.Core.List.{List}
 use mathlib.Core.Path.{_≡_}
 use Prim.Native.Nat.{ℕ}
+use lib.ListN.{length}
+use mathlib.Core.Bool.{true, false}
+use Rattle.controller.specs.Bus.{badTransfer, mustWait, decided}
+use Rattle.controller.specs.Halves.{accepted}
+use Rattle.controller.specs.Record.{sound, waited}
+use Rattle.controller.specs.declared.«record».Record.{Record}
 use Rattle.controller.specs.Decision.{numberOf}
 use Rattle.controller.specs.Theorems.{TransferKeepsSound, ResetMakesSound, EffectsFit, TransferRefusals, ResetRefusals}
 use Rattle.glass.specs.Theorems.{EachByte, LaterStay, PictureRefusals}
 use Rattle.lines.specs.Theorems.{WrittenReadsBack, ReadWritesBack, OneReading}
-use Rattle.lines.specs.Writing.{Writing, Meets, lineWriting}
+use Rattle.lines.specs.Writing.{Writing, Meets, wanting, lineWriting}
 use Rattle.lines.specs.declared.writer.Written.{Written}
 use Rattle.planner.specs.Demand
-use Rattle.planner.specs.Theorems.{PlanRefusals, BoardSendsPlan}
+use Rattle.planner.specs.Theorems.{NotWishes, PlanRefusals, BoardSendsPlan}
 use Rattle.player.specs.Report.{playing}
 use Rattle.promises.specs.Answers.{EachAnswer}
 use Rattle.promises.specs.Determined.{EachDetermined}
@@ -23,22 +29,33 @@ LeavesBuffer w out =
 
 -- 1. Every call answers every input. Nothing has to be checked first; bad input gets a numbered refusal, and no refusal alters a
 -- memory cell or an output buffer. What it leaves in the controller's record is listed.
+-- The loan call shares `decided` with `transfer`, and with it all that is said of refusals; `texts` speaks of rows and header.
 pub record Demand1 : Type 0 where
   pub answers : EachDetermined
   pub numbers : EachAnswer
+  pub wishes : NotWishes
   pub transfer : TransferRefusals
   pub reset : ResetRefusals
   pub picture : PictureRefusals
   pub plan : PlanRefusals
   pub writer : (kind byte wait : ℕ) (out : List ℕ) → LeavesBuffer (lineWriting kind byte wait out) out
+  pub texts : (size : ℕ) (text out : List ℕ) → LeavesBuffer (wanting size text out) out
   pub play : (text out : List ℕ) → LeavesBuffer (playing text out) out
+
+-- A transfer is taken wherever nothing refuses it: with a sound record, a whole memory, a kind and byte in order, and no need to
+-- wait, it comes to what the rules of halves and instructions say.
+abbrev pub Taken : Type 0
+Taken =
+    (rec : Record) (mem : List ℕ) (kind byte wait : ℕ) → sound rec ≡ true → length mem ≡ 144 → badTransfer kind byte ≡ false
+    → mustWait kind (waited wait rec) ≡ false → decided rec mem kind byte wait ≡ accepted mem kind byte (waited wait rec)
 
 -- 2. Each bus transfer answers and leaves its controller as set out in document 01: that is the promise of `transfer`, with the
 -- definitions it cites. It keeps a sound record sound and its effect within the memory; the dots on the glass are the picture's
 -- definition, byte by byte. A session line, once written, reads back as the same transfer, and a line that was read is written
 -- out the same.
 pub record Demand2 : Type 0 where
-  pub sound : TransferKeepsSound
+  pub taken : Taken
+  pub kept : TransferKeepsSound
   pub reset : ResetMakesSound
   pub effects : EffectsFit
   pub dots : EachByte

@@ -9,7 +9,7 @@ use Rattle.controller.specs.declared.decision.Effect.{Effect}
 use Rattle.controller.specs.declared.decision.Effect.the-variants.{Keep, Store, Blank}
 use Rattle.controller.specs.Decision.{performed, blanked}
 
-blanked-length : (mem : List ℕ) → length mem ≡ 144 → length (blanked mem) ≡ 144
+pub blanked-length : (mem : List ℕ) → length mem ≡ 144 → length (blanked mem) ≡ 144
 unfolding blanked
 blanked-length mem long = length-append (replicate {A = ℕ} 80 0x20) (drop 80 mem) ∙ omega (arith, length-replicate {A = ℕ} 80 0x20, length-drop 80 mem)
 

@@ -11,7 +11,7 @@ use lib.ListN.{length, getD, set, length-set}
 use lib.Seq.{getD-set-same}
 use borrow.Author.Tests.{eq-eqb}
 use Rattle.controller.proofs.Laws.Cells.{place-below}
-use Rattle.controller.proofs.Laws.Memory.{performed-length}
+use Rattle.controller.proofs.Laws.Memory.{blanked-length, performed-length}
 use Rattle.controller.proofs.Laws.Taken.{covered, taken}
 use Rattle.controller.proofs.Theorems.Sound.{transfer-keeps-sound}
 use Rattle.controller.proofs.Laws.Record.{sound-counter, waited-sound}
@@ -25,51 +25,65 @@ use Rattle.controller.specs.declared.execute.Transfer.the-variants.{Inst
 use Rattle.controller.specs.declared.«record».Half.{Half}
 use Rattle.controller.specs.declared.«record».Half.the-variants.{Empty, InstructionWrite, DataWrite, StatusRead, DataRead}
 use Rattle.controller.specs.declared.«record».Record.{Record}
-use Rattle.controller.specs.Bus.{decided, ordered, whole, badTransfer, mustWait, noHalf}
-use Rattle.controller.specs.Cases.{Waits, P1, WriteLeads, P2, P3, Answers, P4, P6, P8, P9, P10, P11}
+use Rattle.controller.specs.Bus.{decided, ordered, resetDecided, whole, badTransfer, mustWait, noHalf}
+use Rattle.controller.specs.Cases.{Waits, afterReset, statusRead, dataWrite, P1, WriteLeads, P2, P3, Answers, P4, P6, P8, P9, P10, sentIn11, P11}
 use Rattle.controller.specs.Cells.{onCell, wrapped, stepped, placeOf, byteAt, addressOf, addOfCell, acgOfCell, cellOfAdd, cellOfAcg}
-use Rattle.controller.specs.Decision.{numberOf, performed, done, refused}
+use Rattle.controller.specs.Decision.{numberOf, blanked, performed, done, refused}
 use Rattle.controller.specs.Execute.{shortTime, longTime, statusOf, completed, executed, addressed, carried, written, readOut, homed}
 use Rattle.controller.specs.Halves.{accepted, narrow, begun, firstHalf, firstTold, secondHalf, crossed}
 use Rattle.controller.specs.Instruction.{decoded, bit}
 use Rattle.controller.specs.Record.{resetRecord, resetTime, sound, halfSound, waited, withHalf}
-use Rattle.controller.specs.Runs.{State, Sent, Told, decidedOf, after, toldOf, heard}
+use Rattle.controller.specs.Runs.{State, Sent, Told, decidedOf, after, toldOf, ran, heard}
 
 -- with its memory whole and its busy time covered, a sound controller takes every transfer that is well formed
 waits-taken : (rec : Record) (mem : List ℕ) (wide : Bool) (half : Half) (kind byte wait : ℕ) → Waits rec mem wide half wait → badTransfer kind byte ≡ false
     → decided rec mem kind byte wait ≡ accepted mem kind byte (waited wait rec)
 waits-taken rec mem wide half kind byte wait w good = taken rec mem kind byte wait (w .sound) (w .whole) good (covered kind wait rec (w .over))
 
-taken-wide : (rec : Record) (mem : List ℕ) (half : Half) (kind byte wait : ℕ) → Waits rec mem true half wait → badTransfer kind byte ≡ false
+pub taken-wide : (rec : Record) (mem : List ℕ) (half : Half) (kind byte wait : ℕ) → Waits rec mem true half wait → badTransfer kind byte ≡ false
     → decided rec mem kind byte wait ≡ completed mem (begun kind byte (waited wait rec)) (waited wait rec)
 unfolding accepted
 taken-wide rec mem half kind byte wait w good = waits-taken rec mem true half kind byte wait w good ∙ rw (w .width)
 
-taken-narrow : (rec : Record) (mem : List ℕ) (half : Half) (kind byte wait : ℕ) → Waits rec mem false half wait → badTransfer kind byte ≡ false
+pub taken-narrow : (rec : Record) (mem : List ℕ) (half : Half) (kind byte wait : ℕ) → Waits rec mem false half wait → badTransfer kind byte ≡ false
     → decided rec mem kind byte wait ≡ narrow mem kind byte half (waited wait rec)
 unfolding accepted
 taken-narrow rec mem half kind byte wait w good = waits-taken rec mem false half kind byte wait w good ∙ rw (w .width, w .holds)
 
-pub p1 : P1
-unfolding decided ordered whole sound halfSound onCell resetRecord resetTime badTransfer mustWait noHalf accepted begun completed statusOf addressOf addOfCell
-p1 mem long = (rw long refl, rw long refl)
+-- what reset leaves
+reset-state : (rec : Record) (mem : List ℕ) → length mem ≡ 144 → afterReset rec mem ≡ record { rec = resetRecord; mem = blanked mem }
+unfolding resetDecided whole performed
+reset-state rec mem long = rw (eq-eqb (length mem) 144 long)
 
-write-leads : (n : Bool) (counter : Counter) (from to : ℕ) → addressOf n counter ≡ from → addressOf n (stepped true counter) ≡ to → WriteLeads n counter from to
+status-told : (mem : List ℕ) (wait : ℕ) → length mem ≡ 144 → decided resetRecord mem 2 0 wait .byte ≡ statusOf (waited wait resetRecord)
+unfolding decided ordered whole sound halfSound onCell resetRecord resetTime badTransfer mustWait noHalf accepted begun completed
+status-told mem wait long = simp (eq-eqb (length mem) 144 long, and-false)
+
+pub p1 : P1
+unfolding statusOf addressOf addOfCell resetRecord resetTime
+p1 rec mem long =
+    let told : (wait : ℕ) → decidedOf (afterReset rec mem) (statusRead wait) .byte ≡ statusOf (waited wait resetRecord) =
+    λ wait. ap (λ (s : State). decidedOf s (statusRead wait) .byte) (reset-state rec mem long)
+    ∙ status-told (blanked mem) wait (blanked-length mem long) in
+    (told 9999, told 10000)
+
+write-leads : (n : Bool) (counter : Counter) (from : ℕ) (next : Counter) (to : ℕ) → addressOf n counter ≡ from → stepped true counter ≡ next
+    → addressOf n next ≡ to → WriteLeads n counter from next to
 unfolding badTransfer begun completed written
-write-leads n counter from to at next rec mem byte wait w lines up place =
-    (at, ap (λ (d : Decision). addressOf n (d .rec .counter)) (taken-wide rec mem Empty 1 byte wait w refl) ∙ simp (up, place) next)
+write-leads n counter from next to at steps there rec mem byte wait w lines up place =
+    (at, ap (λ (d : Decision). d .rec .counter) (taken-wide rec mem Empty 1 byte wait w refl) ∙ simp (up, place) steps, there)
 
 pub p2 : P2
 unfolding addressOf addOfCell stepped wrapped
-p2 = write-leads true (Display 39) 0x27 0x40 refl refl
+p2 = write-leads true (Display 39) 0x27 (Display 40) 0x40 refl refl refl
 
 pub p3 : P3
 unfolding addressOf addOfCell stepped wrapped
-p3 = (write-leads true (Display 79) 0x67 0x00 refl refl, write-leads false (Display 79) 0x4F 0x00 refl refl)
+p3 = (write-leads true (Display 79) 0x67 (Display 0) 0x00 refl refl refl, write-leads false (Display 79) 0x4F (Display 0) 0x00 refl refl refl)
 
 pub p6 : P6
 unfolding addressOf acgOfCell stepped wrapped
-p6 n = write-leads n (Pattern 63) 0x3F 0x00 refl refl
+p6 n = write-leads n (Pattern 63) 0x3F (Pattern 0) 0x00 refl refl refl
 
 -- a display address, answered by the cell that it names
 answers : (n : Bool) (byte : ℕ) (answer : Answer) → ((mem : List ℕ) (rec : Record) → rec .function .n ≡ n → executed mem (decoded byte) rec .answer ≡ answer)
@@ -114,29 +128,35 @@ unfolding badTransfer narrow begun firstHalf
 p8-first rec mem wait w = taken-narrow rec mem Empty 1 0x40 wait w refl
 
 p8-between : (rec : Record) (mem : List ℕ) (wait later : ℕ) → Waits rec mem false Empty wait
-    → Waits (decided rec mem 1 0x40 wait .rec) mem false (DataWrite 4) later
+    → Waits (withHalf (DataWrite 4) (waited wait rec)) mem false (DataWrite 4) later
 p8-between rec mem wait later w =
-    let d = p8-first rec mem wait w in
     record {
-      sound = transfer-keeps-sound rec mem 1 0x40 wait (omega arith) (w .sound);
+      sound =
+          sym (ap (λ (d : Decision). sound (d .rec)) (p8-first rec mem wait w))
+          ∙ transfer-keeps-sound rec mem 1 0x40 wait (omega arith) (w .sound);
       whole = w .whole;
-      width = ap (λ (x : Decision). x .rec .wide) d ∙ w .width;
-      holds = ap (λ (x : Decision). x .rec .half) d;
-      over = omega (arith, ap (λ (x : Decision). x .rec .busy) d, w .over);
+      width = w .width;
+      holds = refl;
+      over = omega (arith, w .over);
     }
 
+-- the second half, from there
+p8-second : (rec : Record) (mem : List ℕ) (wait later : ℕ) → Waits rec mem false Empty wait
+    → decided (withHalf (DataWrite 4) (waited wait rec)) mem 1 0x10 later
+    ≡ narrow mem 1 0x10 (DataWrite 4) (waited later (withHalf (DataWrite 4) (waited wait rec)))
+unfolding badTransfer
+p8-second rec mem wait later w = taken-narrow _ mem (DataWrite 4) 1 0x10 later (p8-between rec mem wait later w) refl
+
 pub p8 : P8
-unfolding badTransfer narrow secondHalf completed written crossed numberOf performed
+unfolding narrow secondHalf completed written crossed numberOf performed ran
 p8 rec mem wait later w =
-    let one = decided rec mem 1 0x40 wait .rec in
+    let s : State = record { rec = rec; mem = mem } in
     let first = p8-first rec mem wait w in
-    let second : decided one mem 1 0x10 later ≡ narrow mem 1 0x10 (DataWrite 4) (waited later one) =
-    taken-narrow one mem (DataWrite 4) 1 0x10 later (p8-between rec mem wait later w) refl in
-    let there : one .counter ≡ rec .counter = ap (λ (x : Decision). x .rec .counter) first in (
-      ap (λ (x : Decision). x .answer) first,
-      ap (λ (x : Decision). x .answer) second,
-      ap (λ (x : Decision). getD (performed (x .effect) mem) (placeOf (rec .counter)) 0) second
-          ∙ ap (λ (x : Counter). getD (set mem (placeOf x) 0x41) (placeOf (rec .counter)) 0) there
+    let second = p8-second rec mem wait later w in (
+      ap (λ (d : Decision). numberOf (d .answer)) first,
+      ap (λ (d : Decision). numberOf (decidedOf (after s d) (dataWrite 0x10 later) .answer)) first ∙ ap (λ (d : Decision). numberOf (d .answer)) second,
+      ap (λ (d : Decision). getD (after (after s d) (decidedOf (after s d) (dataWrite 0x10 later)) .mem) (placeOf (rec .counter)) 0) first
+          ∙ ap (λ (d : Decision). getD (performed (d .effect) mem) (placeOf (rec .counter)) 0) second
           ∙ stored mem rec 0x41 (w .whole) (w .sound),
     )
 
@@ -166,4 +186,4 @@ heard-open s (t ∷ ts) long =
 
 pub p11 : P11
 unfolding openHeard openly ordered sound halfSound onCell resetRecord resetTime badTransfer mustWait noHalf accepted begun completed statusOf addressOf addOfCell executed decoded bit written carried stepped wrapped placeOf readOut shortTime performed numberOf
-p11 mem long = heard-open _ _ long
+p11 rec mem long = ap (λ (s : State). heard s sentIn11) (reset-state rec mem long) ∙ heard-open _ sentIn11 (blanked-length mem long)

@@ -25,6 +25,7 @@ use Rattle.planner.proofs.Laws.Count.{plan-bound}
 use Rattle.planner.specs.declared.bus.Planned.{Planned}
 use Rattle.planner.specs.declared.wish.Wish.{Wish}
 use Rattle.planner.specs.Bus.{Reply, wanted, replyTo, laidOut}
+use Rattle.planner.specs.Demand.{halfWrite, excepted}
 use Rattle.planner.specs.Plan.{Command, worth, addressByte, cell, cellsBelow, commands, timeOf, inHalves, planOf, encoded}
 use Rattle.planner.specs.Theorems.{AtMost468, Reaches468, P12, ExceptionNeeded, BoardSendsPlan, all, readBack}
 use Rattle.planner.specs.Wish.{marksFit, isWish, marked, follows}
@@ -45,8 +46,8 @@ waiting : State
 waiting = record { rec = withHalf (DataWrite 4) (withBusy 0 (withFunction false (record { n = false; f = false }) resetRecord)); mem = all 0x20 }
 
 pub exception-needed : ExceptionNeeded
-unfolding waiting worth addressByte addOfCell cell cellsBelow commands timeOf inHalves planOf marked follows shortTime longTime ran decided ordered whole sound halfSound onCell resetTime resetRecord badTransfer mustWait noHalf accepted begun narrow firstHalf secondHalf crossed numberOf completed executed decoded bit written carried stepped wrapped placeOf byteAt readOut statusOf addressOf cellOfAdd cellOfAcg addressed cursorAt performed blanked
-exception-needed = (waiting, refl, refl, refl, refl)
+unfolding waiting excepted halfWrite worth addressByte addOfCell cell cellsBelow commands timeOf inHalves planOf marked follows shortTime longTime ran decided ordered whole sound halfSound onCell resetTime resetRecord badTransfer mustWait noHalf accepted begun narrow firstHalf secondHalf crossed numberOf completed executed decoded bit written carried stepped wrapped placeOf byteAt readOut statusOf addressOf cellOfAdd cellOfAcg addressed cursorAt performed blanked
+exception-needed = (waiting, refl, refl, refl, refl, refl)
 
 -- every wait fits its four bytes
 SmallWaits : List Sent → Type 0

@@ -1,3 +1,6 @@
+-- `controller::cells::line_length` meets its contract: at each return what led there says which case of `lineLength`
+-- holds.
+-- Assumes nothing.
 use Rattle.controller.specs.Cells.{lineLength}
 use Rattle.controller.proofs.cells.line_length.Statement.{statement}
 use Rattle.controller.proofs.cells.line_length.Tie as tie
