@@ -1,0 +1,7 @@
+// The calls of the crates beneath for programs in C: numbers and byte slices only, a record as 24 bytes. Each answers
+// every input, and returns the answer's number and 256 times the byte, count or length.
+mod controller_calls;
+mod record_bytes;
+
+pub use controller_calls::yaropesk_reset;
+pub use controller_calls::yaropesk_transfer;
