@@ -1,3 +1,4 @@
 pub mod Same
 pub mod Read
 pub mod Calls
+pub mod Fillings

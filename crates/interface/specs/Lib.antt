@@ -1,3 +1,6 @@
 pub mod RecordBytes
 pub mod ControllerCalls
+pub mod Filling
+pub mod LineCalls
+pub mod PictureCalls
 pub mod Theorems

@@ -1,28 +1,18 @@
 // Reset and transfer over a record of 24 bytes and a memory of 144.
 ghost use mathlib.Core.Path.{_≡_};
-ghost use Prim.Native.Nat.{_+_, _*_};
 ghost use lib.ListN.{length};
 ghost use Rattle.controller.specs.Bus.{decided, resetDecided, whole};
-ghost use Rattle.controller.specs.Decision.{numberOf};
 ghost use Rattle.interface.specs.ControllerCalls.{Left, Meets, callOf, isRecordLong, resetCall, transferCall};
 ghost use Rattle.interface.specs.RecordBytes.{recordFrom};
 use crate::record_bytes::ReadRecord;
 use crate::record_bytes::read_record;
 use crate::record_bytes::record_from;
 use crate::record_bytes::write_record;
-use controller::Answer;
+use crate::told::returned;
 use controller::Outcome;
 use controller::Record;
-use controller::number;
 use controller::reset;
 use controller::transfer;
-
-// The answer's number and 256 times the byte.
-fn returned(answer: Answer, byte: u8) -> u32
-    ensures { λ r. ⌜ r ≡ numberOf answer + 256 * byte ⌝ }
-{
-    number(answer) as u32 + 256 * byte as u32
-}
 
 // Leaves the record of an outcome in its bytes and tells the rest.
 fn leave(outcome: Outcome, bytes: &mut [u8]) -> u32
