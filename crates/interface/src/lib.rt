@@ -8,5 +8,6 @@ mod told;
 
 pub use controller_calls::yaropesk_reset;
 pub use controller_calls::yaropesk_transfer;
+pub use line_calls::yaropesk_read_line;
 pub use line_calls::yaropesk_write_line;
 pub use picture_calls::yaropesk_picture;

@@ -2,7 +2,8 @@
 -- Assumes nothing.
 use mathlib.Core.Bool.{Bool}
 use mathlib.Core.List.{List}
-use mathlib.Core.Path.{_≡_, refl, ap, _∙_}
+use mathlib.Core.Logic.{⊎-elim}
+use mathlib.Core.Path.{_≡_, refl, ap, subst, _∙_}
 use Prim.Native.Nat.{ℕ, _+_, _*_, _≤_}
 use native.Mathlib.Omega.{arith}
 use lib.Dec.{ltb}
@@ -18,10 +19,13 @@ use Rattle.lines.specs.declared.writer.Written.{Written}
 use Rattle.lines.specs.Line.{line, waitLimit}
 use Rattle.lines.specs.Writing.{Writing, lineWriting, refusing, wanting, writing}
 use Rattle.lines.specs.Writing as Writing'
+use Rattle.lines.specs.declared.reader.Line.{Line}
+use Rattle.lines.specs.Reading.{lineOf}
+use Rattle.lines.proofs.Theorems.Read.{reader-answers, read-is-sayable}
 use Rattle.lines.proofs.Theorems.Written.{lines-fit}
 use Rattle.interface.specs.declared.record_bytes.ReadRecord.the-variants.{Broken}
 use Rattle.interface.specs.Filling.{Fills}
-use Rattle.interface.specs.LineCalls.{fillingOf}
+use Rattle.interface.specs.LineCalls.{fillingOf, readCall, stored}
 use Rattle.interface.specs.PictureCalls.{drawingOf, pictureFrom}
 use Rattle.interface.specs.RecordBytes.{recordIn}
 
@@ -60,3 +64,23 @@ told-short kind byte wait out told limit met =
     let same = ap (λ (t : Written). t .length) (met .told) in
     let short = line-short kind byte wait out limit in
     omega arith
+
+-- the length that the reader returns is at most 16
+pub read-short : (text : List ℕ) → lineOf text .length ≤ 468
+read-short text =
+    ⊎-elim
+    (λ stands. let short = read-is-sayable text (stands .1) .2 in omega arith)
+    (λ bad. let none = ap (λ (l : Line). l .length) (bad .1) in omega arith)
+    (reader-answers text)
+
+-- and so is the length of what was read
+pub line-told-short : (line : Line) (text : List ℕ) → line ≡ lineOf text → line .length ≤ 468
+line-told-short line text is =
+    let same = ap (λ (l : Line). l .length) is in
+    let short = read-short text in
+    omega arith
+
+-- a line that was read and stored
+pub stored-fills : (line : Line) (text out : List ℕ) {returned : ℕ} {after : List ℕ} → line ≡ lineOf text → Fills (stored line out) returned after
+    → Fills (readCall text out) returned after
+stored-fills line text out {returned} {after} is fills = subst (λ (l : Line). Fills (stored l out) returned after) is fills
