@@ -2,3 +2,4 @@ pub mod Same
 pub mod Read
 pub mod Calls
 pub mod Fillings
+pub mod Plans

@@ -65,7 +65,7 @@ fn is_record_long(bytes: &[u8]) -> bool
     bytes.len() == 24
 }
 
-fn is_whole(memory: &[u8]) -> bool
+pub fn is_whole(memory: &[u8]) -> bool
     ensures { λ r. ⌜ r ≡ whole (now (memory .entry)) ⌝ }
 {
     memory.len() == 144
