@@ -24,7 +24,8 @@ unfolding widthByte
 width-back true = refl
 width-back false = refl
 
-bit-back : (bit : Bool) → eqb (bitByte bit) 1 ≡ bit
+-- a bit is read back
+pub bit-back : (bit : Bool) → eqb (bitByte bit) 1 ≡ bit
 unfolding bitByte
 bit-back true = refl
 bit-back false = refl
