@@ -1,0 +1,5 @@
+pub mod Same
+pub mod Read
+pub mod Calls
+pub mod Fillings
+pub mod Plans

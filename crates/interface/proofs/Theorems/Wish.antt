@@ -1,0 +1,21 @@
+-- The bytes of a wish say it.
+-- Assumes nothing.
+use mathlib.Core.Path.{_≡_, refl}
+use lib.ListN.{length}
+use Rattle.planner.specs.declared.wish.Wish.{Wish}
+use Rattle.interface.specs.WishBytes.{wishAs, wishBytes, wishFrom, wishIn}
+use Rattle.interface.specs.Theorems.{WishReadsBack}
+use Rattle.interface.proofs.Laws.Same.{same-refl}
+use Rattle.interface.proofs.Theorems.Record.{bit-back}
+
+wish-length : (wish : Wish) → length (wishBytes wish) ≡ 16
+unfolding wishBytes
+wish-length wish = refl
+
+wish-back : (wish : Wish) → wishFrom (wishBytes wish) ≡ wish
+unfolding wishFrom wishBytes
+wish-back wish = simp bit-back
+
+pub wish-reads-back : WishReadsBack
+unfolding wishIn wishAs
+wish-reads-back wish = simp (wish-length wish, wish-back wish, same-refl)

@@ -1,0 +1,43 @@
+-- `interface::picture_calls::yaropesk_picture` meets its contract: bytes that say no record are refused, and else the picture is of
+-- the record that they say.
+-- Assumes nothing.
+use Rattle.interface.proofs.Laws.Fillings.{broken-fills}
+use Rattle.interface.specs.PictureCalls.{pictureFrom}
+use mathlib.Core.Path.{sym, _∙_}
+use borrow.Author.Needs.{needs}
+use Rattle.interface.proofs.picture_calls.yaropesk_picture.Statement.{statement}
+use Rattle.interface.proofs.picture_calls.yaropesk_picture.Tie as tie
+
+read-record-requires : tie.Need-read-record-requires
+read-record-requires c κs = search needs
+
+enum-told : tie.Need-enum-told
+enum-told c = search needs
+
+enum-known-read : tie.Need-enum-known-read
+enum-known-read c = search needs
+
+picture-of-requires : tie.Need-picture-of-requires
+picture-of-requires c κs = search needs
+
+returns : tie.Need-returns
+returns c = broken-fills _ _ _ _ _ _ (sym (c .before .before .read-record .ensures) ∙ c .enum-told .given .1)
+
+same-length : tie.Need-same-length
+same-length c = search needs
+
+returns-2 : tie.Need-returns-2
+unfolding pictureFrom
+returns-2 c = simp (sym (c .before .before .before .before .before .before .before .read-record .ensures) ∙ c .before .before .before .before .before .read .given .1) (search needs)
+
+pub yaropesk-picture-spec : {M : Type 1} → statement M
+yaropesk-picture-spec =
+    tie.close
+    (tie.spec
+    read-record-requires
+    enum-told
+    enum-known-read
+    picture-of-requires
+    returns
+    same-length
+    returns-2)

@@ -1,0 +1,15 @@
+-- Calls that write into one lent buffer: what is returned, and every byte of the buffer.
+-- Assumes nothing.
+use mathlib.Core.List.{List}
+use mathlib.Core.Path.{_≡_}
+use Prim.Native.Nat.{ℕ}
+
+-- What such a call comes to: the number returned, and the buffer as it is left.
+pub record Filling : Type 0 where
+  pub returned : ℕ
+  pub buffer : List ℕ
+
+-- What such a call promises.
+pub record Fills (call : Filling) (returned : ℕ) (after : List ℕ) : Type 0 where
+  pub told : returned ≡ call .returned
+  pub buffer : after ≡ call .buffer

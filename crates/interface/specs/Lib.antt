@@ -1,0 +1,8 @@
+pub mod RecordBytes
+pub mod ControllerCalls
+pub mod Filling
+pub mod LineCalls
+pub mod PictureCalls
+pub mod WishBytes
+pub mod PlanCalls
+pub mod Theorems

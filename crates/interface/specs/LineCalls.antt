@@ -1,0 +1,42 @@
+-- Session lines for C: the answer's number, 256 times the line's length, and every byte of the buffer.
+-- Assumes nothing.
+use mathlib.Core.Bool.{cond, not}
+use mathlib.Core.List.{List}
+use Prim.Native.Nat.{ℕ, _+_, _*_}
+use lib.Dec.{eqb, ltb}
+use lib.ListN.{length}
+use Rattle.controller.specs.declared.decision.Answer.{Answer}
+use Rattle.controller.specs.declared.decision.Answer.the-variants.{OutputShort}
+use Rattle.controller.specs.Decision.{numberOf}
+use Rattle.lines.specs.declared.reader.Line.{Line}
+use Rattle.lines.specs.Reading.{lineOf}
+use Rattle.lines.specs.Writing.{Writing, lineWriting, onto}
+use Rattle.planner.specs.Plan.{sixBytes}
+use Rattle.interface.specs.Filling.{Filling}
+
+-- The call of a text that is written.
+abbrev pub fillingOf : Writing → List ℕ → Filling
+fillingOf w out = record { returned = numberOf (w .answer) + 256 * length (w .text); buffer = onto (w .text) out }
+
+-- What `yaropesk_write_line` comes to.
+abbrev pub writeCall : ℕ → ℕ → ℕ → List ℕ → Filling
+writeCall kind byte wait out = fillingOf (lineWriting kind byte wait out) out
+
+-- The transfer of a line as six bytes: kind, byte, wait little-endian.
+abbrev pub sixOf : Line → List ℕ
+sixOf line = sixBytes (record { kind = line .kind; byte = line .byte; wait = line .wait })
+
+-- A refusal writes nothing.
+abbrev pub declined : Answer → List ℕ → Filling
+declined answer out = record { returned = numberOf answer + 256 * 0; buffer = out }
+
+-- A line that was read, the refusals in their order: 12, then 11. Six bytes are wanted.
+unfoldable pub stored : Line → List ℕ → Filling
+stored line out =
+    cond (not (eqb (numberOf (line .answer)) 0)) (declined (line .answer) out)
+    (cond (ltb (length out) 6) (declined OutputShort out)
+    (record { returned = numberOf (line .answer) + 256 * line .length; buffer = onto (sixOf line) out }))
+
+-- What `yaropesk_read_line` comes to.
+abbrev pub readCall : List ℕ → List ℕ → Filling
+readCall text out = stored (lineOf text) out

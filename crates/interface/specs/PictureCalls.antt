@@ -1,0 +1,29 @@
+-- The picture for C: the answer's number, and every byte of the output.
+-- Assumes nothing.
+use mathlib.Core.Bool.{Bool, not}
+use mathlib.Core.List.{List}
+use Prim.Native.Nat.{ℕ}
+use lib.Dec.{eqb}
+use lib.ListN.{length}
+use Rattle.controller.specs.declared.decision.Answer.the-variants.{Unsound}
+use Rattle.controller.specs.declared.«record».Record.{Record}
+use Rattle.controller.specs.Decision.{numberOf}
+use Rattle.glass.specs.Picture.{answered, output}
+use Rattle.interface.specs.declared.record_bytes.ReadRecord.{ReadRecord}
+use Rattle.interface.specs.declared.record_bytes.ReadRecord.the-variants.{Is, Broken}
+use Rattle.interface.specs.Filling.{Filling}
+use Rattle.interface.specs.RecordBytes.{recordIn}
+
+-- The picture of a record.
+abbrev pub drawingOf : Record → List ℕ → ℕ → ℕ → Bool → List ℕ → Filling
+drawingOf rec mem columns lines lit out =
+    record { returned = numberOf (answered rec mem columns lines (length out)); buffer = output rec mem columns lines lit out }
+
+-- The picture of what the record's bytes say: bytes that say none are an unsound record.
+unfoldable pub pictureFrom : ReadRecord → List ℕ → ℕ → ℕ → Bool → List ℕ → Filling
+pictureFrom Broken mem columns lines lit out = record { returned = numberOf Unsound; buffer = out }
+pictureFrom (Is rec) mem columns lines lit out = drawingOf rec mem columns lines lit out
+
+-- What `yaropesk_picture` comes to. Any `lit` but 0 is the lit phase.
+abbrev pub pictureCall : List ℕ → List ℕ → ℕ → ℕ → ℕ → List ℕ → Filling
+pictureCall bytes mem columns lines lit out = pictureFrom (recordIn bytes) mem columns lines (not (eqb lit 0)) out

@@ -1,0 +1,95 @@
+// Reset and transfer over a record of 24 bytes and a memory of 144.
+ghost use mathlib.Core.Path.{_≡_};
+ghost use lib.ListN.{length};
+ghost use Rattle.controller.specs.Bus.{decided, resetDecided, whole};
+ghost use Rattle.interface.specs.ControllerCalls.{Left, Meets, callOf, isRecordLong, resetCall, transferCall};
+ghost use Rattle.interface.specs.RecordBytes.{recordFrom};
+use crate::record_bytes::ReadRecord;
+use crate::record_bytes::read_record;
+use crate::record_bytes::record_from;
+use crate::record_bytes::write_record;
+use crate::told::returned;
+use controller::Outcome;
+use controller::Record;
+use controller::reset;
+use controller::transfer;
+
+// Leaves the record of an outcome in its bytes and tells the rest.
+fn leave(outcome: Outcome, bytes: &mut [u8]) -> u32
+    requires { ⌜ length (now bytes) ≡ 24 ⌝ }
+    ensures { λ r. ⌜ Left outcome r (now (bytes .exit)) ⌝ }
+{
+    let answer = outcome.answer;
+    let rec = outcome.rec;
+    write_record(rec, bytes);
+    returned(answer, outcome.byte)
+}
+
+// A transfer from the record that was read.
+fn transfer_from(
+    rec: Record,
+    bytes: &mut [u8],
+    memory: &mut [u8],
+    kind: u8,
+    byte: u8,
+    wait: u32,
+) -> u32
+    requires { ⌜ length (now bytes) ≡ 24 ⌝ }
+    ensures { λ r. ⌜ Meets (callOf (decided rec (now (memory .entry)) kind byte wait) (now (memory .entry))) r (now (bytes .exit)) (now (memory .exit)) ⌝ }
+{
+    let outcome = transfer(rec, memory, kind, byte, wait);
+    leave(outcome, bytes)
+}
+
+// One bus transfer.
+#[no_mangle]
+pub extern "C" fn yaropesk_transfer(
+    bytes: &mut [u8],
+    memory: &mut [u8],
+    kind: u8,
+    byte: u8,
+    wait: u32,
+) -> u32
+    ensures { λ r. ⌜ Meets (transferCall (now (bytes .entry)) (now (memory .entry)) kind byte wait) r (now (bytes .exit)) (now (memory .exit)) ⌝ }
+{
+    let read = read_record(bytes);
+    match read {
+        ReadRecord::Broken => 1,
+        ReadRecord::Is(rec) => transfer_from(rec, bytes, memory, kind, byte, wait),
+    }
+}
+
+fn is_record_long(bytes: &[u8]) -> bool
+    ensures { λ r. ⌜ r ≡ isRecordLong (now (bytes .entry)) ⌝ }
+{
+    bytes.len() == 24
+}
+
+pub fn is_whole(memory: &[u8]) -> bool
+    ensures { λ r. ⌜ r ≡ whole (now (memory .entry)) ⌝ }
+{
+    memory.len() == 144
+}
+
+// A reset over 24 bytes, whatever they say.
+fn reset_from(bytes: &mut [u8], memory: &mut [u8]) -> u32
+    requires { ⌜ length (now bytes) ≡ 24 ⌝ }
+    ensures { λ r. ⌜ Meets (callOf (resetDecided (recordFrom (now (bytes .entry))) (now (memory .entry))) (now (memory .entry))) r (now (bytes .exit)) (now (memory .exit)) ⌝ }
+{
+    let outcome = reset(record_from(bytes), memory);
+    leave(outcome, bytes)
+}
+
+// Power on. Any 24 bytes will do for the record.
+#[no_mangle]
+pub extern "C" fn yaropesk_reset(bytes: &mut [u8], memory: &mut [u8]) -> u32
+    ensures { λ r. ⌜ Meets (resetCall (now (bytes .entry)) (now (memory .entry))) r (now (bytes .exit)) (now (memory .exit)) ⌝ }
+{
+    if !is_record_long(bytes) {
+        return 1;
+    }
+    if !is_whole(memory) {
+        return 2;
+    }
+    reset_from(bytes, memory)
+}

@@ -1,0 +1,70 @@
+// Session lines, written and read.
+ghost use mathlib.Core.Path.{_≡_};
+ghost use Prim.Native.Nat.{_≤_};
+ghost use lib.Dec.{eqb};
+ghost use lib.ListN.{length};
+ghost use Rattle.controller.specs.Decision.{numberOf};
+ghost use Rattle.lines.specs.Writing.{onto};
+ghost use Rattle.interface.specs.Filling.{Fills};
+ghost use Rattle.interface.specs.LineCalls.{readCall, sixOf, stored, writeCall};
+use crate::told::counted;
+use crate::told::returned;
+use controller::Answer;
+use controller::number;
+use lines::Line;
+use lines::read_line;
+use lines::write_line;
+
+// The line of a transfer, into a buffer of at least 16 bytes.
+#[no_mangle]
+pub extern "C" fn yaropesk_write_line(kind: u8, byte: u8, wait: u32, out: &mut [u8]) -> u32
+    ensures { λ r. ⌜ Fills (writeCall kind byte wait (now (out .entry))) r (now (out .exit)) ⌝ }
+{
+    let written = write_line(kind, byte, wait, out);
+    let answer = written.answer;
+    counted(answer, written.length)
+}
+
+fn is_done(answer: Answer) -> bool
+    ensures { λ r. ⌜ r ≡ eqb (numberOf answer) 0 ⌝ }
+{
+    number(answer) == 0
+}
+
+// Six bytes: kind, byte, wait little-endian.
+fn put_transfer(line: Line, out: &mut [u8])
+    requires { ⌜ 6 ≤ length (now out) ⌝ }
+    ensures { λ _. ⌜ now (out .exit) ≡ onto (sixOf line) (now (out .entry)) ⌝ }
+{
+    out[0] = line.kind;
+    out[1] = line.byte;
+    out[2] = (line.wait % 256) as u8;
+    out[3] = (line.wait / 256 % 256) as u8;
+    out[4] = (line.wait / 65536 % 256) as u8;
+    out[5] = (line.wait / 16777216 % 256) as u8;
+}
+
+// The transfer of a line that was read.
+fn store_line(line: Line, out: &mut [u8]) -> u32
+    requires { ⌜ line .length ≤ 468 ⌝ }
+    ensures { λ r. ⌜ Fills (stored line (now (out .entry))) r (now (out .exit)) ⌝ }
+{
+    let answer = line.answer;
+    if !is_done(answer) {
+        return returned(answer, 0);
+    }
+    if out.len() < 6 {
+        return returned(Answer::OutputShort, 0);
+    }
+    put_transfer(line, out);
+    counted(answer, line.length)
+}
+
+// The line at the start of a text, as six bytes.
+#[no_mangle]
+pub extern "C" fn yaropesk_read_line(text: &[u8], out: &mut [u8]) -> u32
+    ensures { λ r. ⌜ Fills (readCall (now (text .entry)) (now (out .entry))) r (now (out .exit)) ⌝ }
+{
+    let line = read_line(text);
+    store_line(line, out)
+}

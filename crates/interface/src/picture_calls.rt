@@ -1,0 +1,38 @@
+// The picture of a record of 24 bytes and a memory of 144.
+ghost use mathlib.Core.Bool.{not};
+ghost use mathlib.Core.Path.{_≡_};
+ghost use lib.Dec.{eqb};
+ghost use Rattle.interface.specs.Filling.{Fills};
+ghost use Rattle.interface.specs.PictureCalls.{drawingOf, pictureCall};
+use crate::record_bytes::ReadRecord;
+use crate::record_bytes::read_record;
+use crate::told::returned;
+use controller::Record;
+use glass::picture;
+
+// The picture of the record that was read.
+fn picture_of(rec: Record, memory: &[u8], columns: u8, lines: u8, lit: bool, out: &mut [u8]) -> u32
+    ensures { λ r. ⌜ Fills (drawingOf rec (now (memory .entry)) columns lines lit (now (out .entry))) r (now (out .exit)) ⌝ }
+{
+    let answer = picture(rec, memory, columns, lines, lit, out);
+    returned(answer, 0)
+}
+
+// What the panel shows, five dots a byte. Any `lit` but 0 is the lit phase.
+#[no_mangle]
+pub extern "C" fn yaropesk_picture(
+    bytes: &[u8],
+    memory: &[u8],
+    columns: u8,
+    lines: u8,
+    lit: u8,
+    out: &mut [u8],
+) -> u32
+    ensures { λ r. ⌜ Fills (pictureCall (now (bytes .entry)) (now (memory .entry)) columns lines lit (now (out .entry))) r (now (out .exit)) ⌝ }
+{
+    let read = read_record(bytes);
+    match read {
+        ReadRecord::Broken => 1,
+        ReadRecord::Is(rec) => picture_of(rec, memory, columns, lines, lit != 0, out),
+    }
+}

@@ -1,0 +1,19 @@
+// What the calls return: the answer's number, and 256 times a byte, a count or a length.
+ghost use mathlib.Core.Path.{_≡_};
+ghost use Prim.Native.Nat.{_+_, _*_, _≤_};
+ghost use Rattle.controller.specs.Decision.{numberOf};
+use controller::Answer;
+use controller::number;
+
+pub fn returned(answer: Answer, byte: u8) -> u32
+    ensures { λ r. ⌜ r ≡ numberOf answer + 256 * byte ⌝ }
+{
+    number(answer) as u32 + 256 * byte as u32
+}
+
+pub fn counted(answer: Answer, count: usize) -> u32
+    requires { ⌜ count ≤ 468 ⌝ }
+    ensures { λ r. ⌜ r ≡ numberOf answer + 256 * count ⌝ }
+{
+    number(answer) as u32 + 256 * count as u32
+}
