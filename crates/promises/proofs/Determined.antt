@@ -43,4 +43,12 @@ each-determined =
       write-row = λ number answer byte busy out. two _ _ _ (record { told = refl; buffer = refl }) (λ a l is. (is .told, is .buffer));
       write-header = λ out. two _ _ _ (record { told = refl; buffer = refl }) (λ a l is. (is .told, is .buffer));
       play = λ text out. two _ _ _ (record { told = refl; buffer = refl }) (λ a l is. (is .told, is .buffer));
+      yaropesk-reset = λ bytes mem.
+          three _ _ _ _ (record { told = refl; rec = refl; memory = refl }) (λ a b l is. (is .told, is .rec, is .memory));
+      yaropesk-transfer = λ bytes mem kind byte wait.
+          three _ _ _ _ (record { told = refl; rec = refl; memory = refl }) (λ a b l is. (is .told, is .rec, is .memory));
+      yaropesk-picture = λ bytes mem columns lines lit out. two _ _ _ (record { told = refl; buffer = refl }) (λ a l is. (is .told, is .buffer));
+      yaropesk-plan = λ wish marks values out. two _ _ _ (record { told = refl; buffer = refl }) (λ a l is. (is .told, is .buffer));
+      yaropesk-write-line = λ kind byte wait out. two _ _ _ (record { told = refl; buffer = refl }) (λ a l is. (is .told, is .buffer));
+      yaropesk-read-line = λ text out. two _ _ _ (record { told = refl; buffer = refl }) (λ a l is. (is .told, is .buffer));
     }

@@ -16,6 +16,12 @@ use Rattle.controller.specs.declared.decision.Outcome.{Outcome}
 use Rattle.controller.specs.declared.loan.Told.{Told}
 use Rattle.controller.specs.declared.«record».Record.{Record}
 use Rattle.glass.specs.Picture.{Pictured}
+use Rattle.interface.specs.ControllerCalls.{resetCall, transferCall}
+use Rattle.interface.specs.ControllerCalls
+use Rattle.interface.specs.Filling.{Fills}
+use Rattle.interface.specs.LineCalls.{readCall, writeCall}
+use Rattle.interface.specs.PictureCalls.{pictureCall}
+use Rattle.interface.specs.PlanCalls.{planCall}
 use Rattle.lines.specs.Reading.{lineOf}
 use Rattle.lines.specs.Rows.{header, row, rowSize}
 use Rattle.lines.specs.Writing.{lineWriting, wanting}
@@ -55,3 +61,14 @@ pub record EachDetermined : Type 0 where
       → ExactlyOne (λ (x : Written × List ℕ). Rattle.lines.specs.Writing.Meets (wanting rowSize (row number answer byte busy) out) out (x .0) (x .1))
   pub write-header : (out : List ℕ) → ExactlyOne (λ (x : Written × List ℕ). Rattle.lines.specs.Writing.Meets (wanting 20 header out) out (x .0) (x .1))
   pub play : (text out : List ℕ) → ExactlyOne (λ (x : Written × List ℕ). Rattle.lines.specs.Writing.Meets (playing text out) out (x .0) (x .1))
+  pub yaropesk-reset : (bytes mem : List ℕ)
+      → ExactlyOne (λ (x : ℕ × List ℕ × List ℕ). Rattle.interface.specs.ControllerCalls.Meets (resetCall bytes mem) (x .0) (x .1) (x .2))
+  pub yaropesk-transfer : (bytes mem : List ℕ) (kind byte wait : ℕ)
+      → ExactlyOne (λ (x : ℕ × List ℕ × List ℕ). Rattle.interface.specs.ControllerCalls.Meets (transferCall bytes mem kind byte wait) (x .0) (x .1) (x .2))
+  pub yaropesk-picture : (bytes mem : List ℕ) (columns lines lit : ℕ) (out : List ℕ)
+      → ExactlyOne (λ (x : ℕ × List ℕ). Fills (pictureCall bytes mem columns lines lit out) (x .0) (x .1))
+  pub yaropesk-plan : (wish marks values out : List ℕ)
+      → ExactlyOne (λ (x : ℕ × List ℕ). Fills (planCall wish marks values out) (x .0) (x .1))
+  pub yaropesk-write-line : (kind byte wait : ℕ) (out : List ℕ)
+      → ExactlyOne (λ (x : ℕ × List ℕ). Fills (writeCall kind byte wait out) (x .0) (x .1))
+  pub yaropesk-read-line : (text out : List ℕ) → ExactlyOne (λ (x : ℕ × List ℕ). Fills (readCall text out) (x .0) (x .1))
