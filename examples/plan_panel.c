@@ -1,5 +1,6 @@
 /* Plans a panel that shows "HELLO" and plays the plan through the library.
- * cc -Iinclude examples/plan_panel.c target/staticlib/libinterface.a -o plan_panel */
+ * rt staticlib interface
+ * cc -Iinclude examples/plan_panel.c target/staticlib/libinterface.a -o target/plan_panel */
 #include <stdio.h>
 #include <string.h>
 #include "yaropesk.h"
