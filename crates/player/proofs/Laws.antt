@@ -1,3 +1,4 @@
 pub mod Session
 pub mod Going
 pub mod Whole
+pub mod Through

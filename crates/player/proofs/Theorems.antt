@@ -1,3 +1,4 @@
 pub mod Read
 pub mod Fits
 pub mod One
+pub mod Standing

@@ -1,5 +1,6 @@
 -- What is proved of sessions and their reports: each theorem is a type here, and its proof stands in proofs/Theorems.
 -- Assumes nothing.
+use mathlib.Core.Bool.{true}
 use mathlib.Core.List.{List, [], _∷_, _++_}
 use mathlib.Core.Logic.{_⊎_, _↔_}
 use mathlib.Core.Path.{_≡_}
@@ -8,6 +9,7 @@ use lib.Dec.{ltb}
 use lib.ListN.{length}
 use Rattle.controller.specs.declared.decision.Answer.the-variants.{Done, BadLine}
 use Rattle.controller.specs.Decision.{numberOf}
+use Rattle.controller.specs.Record.{sound}
 use Rattle.controller.specs.Rows.{Row, Given}
 use Rattle.controller.specs.Runs.{Sent, heard}
 use Rattle.lines.specs.declared.writer.Written.{Written}
@@ -15,8 +17,10 @@ use Rattle.lines.specs.Line.{line}
 use Rattle.lines.specs.Rows.{header}
 use Rattle.lines.specs.Theorems.{Sayable}
 use Rattle.lines.specs.Writing.{Meets}
+use Rattle.player.specs.declared.through.Standing.{Standing}
 use Rattle.player.specs.Session.{sessionOf}
 use Rattle.player.specs.Report.{rowsFrom, start, report, reportSize, playing}
+use Rattle.player.specs.Standing.{standing}
 
 -- The lines of these transfers, one after the other.
 unfoldable pub linesOf : List Sent → List ℕ
@@ -58,3 +62,11 @@ PlayAnswers = (text out : List ℕ) (n : ℕ) → (numberOf (playing text out .a
 abbrev pub OnePlay : Type 0
 OnePlay =
     (text out : List ℕ) (a b : Written) (x y : List ℕ) → Meets (playing text out) out a x → Meets (playing text out) out b y → (a ≡ b) × (x ≡ y)
+
+-- And two standings that both are what play_through promises are one.
+abbrev pub OneStanding : Type 0
+OneStanding = (text : List ℕ) (a b : Standing) → a ≡ standing text → b ≡ standing text → a ≡ b
+
+-- Every text leaves a sound record and a memory of 144 bytes, so that no picture of it and no transfer after it is answered 1 or 2.
+abbrev pub StandingTold : Type 0
+StandingTold = (text : List ℕ) → (sound (standing text .rec) ≡ true) × (length (standing text .memory) ≡ 144)

@@ -1,4 +1,7 @@
-// A session's text, played from reset into a report. Document 01, "Session lines".
+// A session's text, played from reset: into a report, or to see how it leaves the bench. Document 01, "Session lines".
 mod session;
+mod through;
 
 pub use session::play;
+pub use through::Standing;
+pub use through::play_through;

@@ -32,7 +32,7 @@ pub struct Step {
     pub length: usize,
 }
 
-fn stands(answer: Answer) -> bool
+pub fn stands(answer: Answer) -> bool
     ensures { λ r. ⌜ r ≡ isDone answer ⌝ }
 {
     number(answer) == 0
@@ -80,7 +80,7 @@ fn play_rows(text: &[u8], first: Record, memory: &mut [u8], out: &mut [u8]) -> u
 }
 
 // Any record will do for a reset.
-fn any_record() -> Record
+pub fn any_record() -> Record
     ensures { λ r. ⌜ r ≡ anyRecord ⌝ }
 {
     Record {
