@@ -1,4 +1,7 @@
-//! An independent model of the bench Yaropesk, written from its documents alone
-//! and meant to be compared with the proved implementation.
+//! The outside checks of the bench Yaropesk: an independent model, written from its
+//! documents alone, the proved library behind safe functions, and what compares them.
 
+pub mod calls;
+pub mod font;
+pub mod library;
 pub mod model;

@@ -1,0 +1,34 @@
+//! The fixed table of shapes. It is the team's own drawing, so no second one is
+//! typed here: it is read from the sheet that the program `font_sheet` prints.
+
+use std::sync::LazyLock;
+
+use crate::model::FONT;
+
+const SHEET: &str = include_str!("../../crates/font_sheet/stdout");
+
+/// 256 x 8 rows, bit 4 the leftmost dot. Codes that the sheet does not show are blank.
+pub static SHAPES: LazyLock<[u8; FONT]> = LazyLock::new(|| read_sheet(SHEET));
+
+/// A sheet has blocks, parted by empty lines: a line of codes, then eight lines of rows.
+fn read_sheet(sheet: &str) -> [u8; FONT] {
+    let mut shapes = [0; FONT];
+    for block in sheet.split("\n\n") {
+        let mut lines = block.lines().map(str::split_whitespace);
+        let codes: Vec<usize> = lines.next().map_or(Vec::new(), |line| {
+            line.map(|code| usize::from_str_radix(code, 16).expect("a code in hex"))
+                .collect()
+        });
+        for (row, line) in lines.enumerate() {
+            for (&code, dots) in codes.iter().zip(line) {
+                shapes[code * 8 + row] = five_dots(dots);
+            }
+        }
+    }
+    shapes
+}
+
+fn five_dots(dots: &str) -> u8 {
+    dots.bytes()
+        .fold(0, |row, dot| row << 1 | u8::from(dot == b'#'))
+}
