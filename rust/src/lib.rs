@@ -2,6 +2,12 @@
 //! documents alone, the proved library behind safe functions, and what compares them.
 
 pub mod calls;
+pub mod case;
+pub mod chance;
+pub mod demand;
 pub mod font;
 pub mod library;
 pub mod model;
+pub mod options;
+pub mod random_calls;
+pub mod wrong;

@@ -10,64 +10,18 @@
 //! difference must come (exit 1). `--wrong=all` tries every wrong model; there the
 //! exit is 0 if each was found out that can be, and 1 if one was not.
 
-use std::env;
 use std::io::{Read, Write};
 use std::process::{exit, Command, Stdio};
 use std::thread;
 
-use yaropesk_model::model::{self, Counter, Half, Line, Reader, Record, Step};
+use yaropesk_model::calls::Model;
+use yaropesk_model::chance::Chance;
+use yaropesk_model::model;
+use yaropesk_model::options::Options;
+use yaropesk_model::wrong;
 
 const DEFAULT_SEED: u64 = 44_780;
 const DEFAULT_TEXTS: u64 = 2_000;
-
-// ---------------------------------------------------------------------------
-// Chance
-// ---------------------------------------------------------------------------
-
-/// xorshift64.
-struct Chance(u64);
-
-impl Chance {
-    /// Each text has its own generator, so that text k does not depend on the
-    /// texts before it.
-    fn new(seed: u64, text: u64) -> Chance {
-        let mut start = seed.wrapping_mul(0x9E37_79B9_7F4A_7C15).wrapping_add(text);
-        start = (start ^ (start >> 30)).wrapping_mul(0xBF58_476D_1CE4_E5B9);
-        start = (start ^ (start >> 27)).wrapping_mul(0x94D0_49BB_1331_11EB);
-        start ^= start >> 31;
-        // xorshift must not start from 0.
-        Chance(if start == 0 { 1 } else { start })
-    }
-
-    fn next(&mut self) -> u64 {
-        self.0 ^= self.0 << 13;
-        self.0 ^= self.0 >> 7;
-        self.0 ^= self.0 << 17;
-        self.0
-    }
-
-    /// A number below the bound.
-    fn below(&mut self, bound: u64) -> u64 {
-        (self.next() >> 16) % bound
-    }
-
-    fn between(&mut self, low: u64, high: u64) -> u64 {
-        low + self.below(high - low + 1)
-    }
-
-    /// True in `percent` of a hundred.
-    fn percent(&mut self, percent: u64) -> bool {
-        self.below(100) < percent
-    }
-
-    fn byte(&mut self) -> u8 {
-        self.below(256) as u8
-    }
-
-    fn pick<T: Copy>(&mut self, from: &[T]) -> T {
-        from[self.below(from.len() as u64) as usize]
-    }
-}
 
 // ---------------------------------------------------------------------------
 // Texts
@@ -298,7 +252,7 @@ impl Text<'_> {
                 "{letter}\t{good:02X}\t{}\n",
                 4_294_967_295 - self.chance.below(3)
             ),
-            8 => format!("{letter}\t{good:02X}\t{}{wait}\n", self.chance.next()),
+            8 => format!("{letter}\t{good:02X}\t{}{wait}\n", self.chance.bits()),
             9 => format!(
                 "{}\t{:02X}\t{wait}\n",
                 self.chance.pick(&['S', 'R']),
@@ -501,22 +455,13 @@ fn run(program: &str, text: &[u8]) -> (Vec<u8>, Option<String>) {
     (printed, ended)
 }
 
-/// What stands in the place of the model.
-#[derive(Clone, Copy)]
-struct Model {
-    read: Reader,
-    step: Step,
-}
-
-impl Model {
-    fn session(&self, text: &[u8]) -> Vec<u8> {
-        model::session_with(text, self.read, self.step)
-    }
+fn session(model: Model, text: &[u8]) -> Vec<u8> {
+    model::session_with(text, model.read_line, model.transfer)
 }
 
 fn differs(program: &str, model: Model, text: &[u8]) -> bool {
     let (printed, ended) = run(program, text);
-    ended.is_some() || printed != model.session(text)
+    ended.is_some() || printed != session(model, text)
 }
 
 /// The lines of a text, each with its newline.
@@ -573,7 +518,7 @@ fn compare(program: &str, model: Model, seed: u64, texts: u64) -> bool {
         bytes += text.len();
         at_limit += u64::from(text.len() == model::SESSION_BYTES);
         too_long += u64::from(text.len() > model::SESSION_BYTES);
-        let expected = model.session(&text);
+        let expected = session(model, &text);
         let (printed, ended) = run(program, &text);
         if ended.is_none() && printed == expected {
             count_answers(&expected, &mut answers);
@@ -587,7 +532,7 @@ fn compare(program: &str, model: Model, seed: u64, texts: u64) -> bool {
         let (printed, ended) = run(program, &short);
         show("shortest text", &short);
         show("the program prints", &printed);
-        show("the model prints", &model.session(&short));
+        show("the model prints", &session(model, &short));
         if let Some(ended) = ended {
             println!("the program ended with {ended}");
         }
@@ -619,288 +564,16 @@ fn count_answers(report: &[u8], answers: &mut [u64; 16]) {
     }
 }
 
-// ---------------------------------------------------------------------------
-// Deliberately wrong models
-// ---------------------------------------------------------------------------
-
-/// The byte of the instruction that this transfer has completed, if it has one.
-fn completed_instruction(before: &Record, kind: u8, byte: u8, answer: u8) -> Option<u8> {
-    let done = answer == model::DONE || answer == model::CROSSED;
-    match before.half {
-        Half::InstructionWrite(high) if done => Some((high << 4) | (byte >> 4)),
-        Half::None if done && kind == model::INSTRUCTION_WRITE => Some(byte),
-        _ => None,
-    }
-}
-
-/// Has a data read been completed by this transfer?
-fn completed_read(before: &Record, kind: u8, answer: u8) -> bool {
-    let done = matches!(answer, model::DONE | model::STALE | model::CROSSED);
-    match before.half {
-        Half::DataRead(_) => done,
-        Half::None => done && kind == model::DATA_READ,
-        _ => false,
-    }
-}
-
-/// Clear sets I/D=1, as document 003 has it.
-fn clear_increments(r: Record, m: &mut [u8], k: u8, b: u8, w: u32) -> (u8, u8, Record) {
-    let (answer, byte, mut new) = model::transfer(r, m, k, b, w);
-    if completed_instruction(&r, k, b, answer) == Some(0x01) {
-        new.id = true;
-    }
-    (answer, byte, new)
-}
-
-/// Clear leaves a fresh register fresh.
-fn clear_keeps_fresh(r: Record, m: &mut [u8], k: u8, b: u8, w: u32) -> (u8, u8, Record) {
-    let (answer, byte, mut new) = model::transfer(r, m, k, b, w);
-    if completed_instruction(&r, k, b, answer) == Some(0x01) {
-        new.fresh = r.fresh;
-    }
-    (answer, byte, new)
-}
-
-/// A data read with S=1 shifts the display. No session shows the shift: this one
-/// is NOT found out by sessions, and stands here to show the limit of them.
-fn read_shifts(r: Record, m: &mut [u8], k: u8, b: u8, w: u32) -> (u8, u8, Record) {
-    let (answer, byte, mut new) = model::transfer(r, m, k, b, w);
-    if completed_read(&r, k, answer) && new.s && matches!(new.counter, Counter::Display(_)) {
-        new.shift = (new.shift + if new.id { 1 } else { 79 }) % 80;
-    }
-    (answer, byte, new)
-}
-
-/// A data read leaves the counter where it was.
-fn read_stays(r: Record, m: &mut [u8], k: u8, b: u8, w: u32) -> (u8, u8, Record) {
-    let (answer, byte, mut new) = model::transfer(r, m, k, b, w);
-    if completed_read(&r, k, answer) {
-        new.counter = r.counter;
-    }
-    (answer, byte, new)
-}
-
-/// A cursor move in pattern memory keeps a fresh register fresh.
-fn pattern_move_fresh(r: Record, m: &mut [u8], k: u8, b: u8, w: u32) -> (u8, u8, Record) {
-    let (answer, byte, mut new) = model::transfer(r, m, k, b, w);
-    if let (Some(0x10..=0x17), Counter::Pattern(_)) =
-        (completed_instruction(&r, k, b, answer), new.counter)
-    {
-        new.fresh = r.fresh;
-    }
-    (answer, byte, new)
-}
-
-/// Instruction 00h takes no time.
-fn nothing_takes_nothing(r: Record, m: &mut [u8], k: u8, b: u8, w: u32) -> (u8, u8, Record) {
-    let (answer, byte, mut new) = model::transfer(r, m, k, b, w);
-    if completed_instruction(&r, k, b, answer) == Some(0x00) {
-        new.busy = 0;
-    }
-    (answer, byte, new)
-}
-
-/// An address without a cell takes its 40.
-fn no_cell_takes_time(r: Record, m: &mut [u8], k: u8, b: u8, w: u32) -> (u8, u8, Record) {
-    let (answer, byte, mut new) = model::transfer(r, m, k, b, w);
-    if answer == model::NO_CELL {
-        new.busy = model::SHORT_TIME;
-    }
-    (answer, byte, new)
-}
-
-/// Changing N keeps the address instead of the cell.
-fn n_keeps_address(r: Record, m: &mut [u8], k: u8, b: u8, w: u32) -> (u8, u8, Record) {
-    let (answer, byte, mut new) = model::transfer(r, m, k, b, w);
-    if let Counter::Display(cell) = new.counter {
-        let cell = match (r.n, new.n) {
-            (true, false) if cell >= 40 => (cell + 24) % 80,
-            (false, true) if cell >= 64 => cell - 24,
-            _ => cell,
-        };
-        new.counter = Counter::Display(cell);
-    }
-    (answer, byte, new)
-}
-
-/// A busy refusal does not count its wait.
-fn refusal_counts_no_wait(r: Record, m: &mut [u8], k: u8, b: u8, w: u32) -> (u8, u8, Record) {
-    let (answer, byte, new) = model::transfer(r, m, k, b, w);
-    if answer == model::BUSY {
-        return (answer, byte, r);
-    }
-    (answer, byte, new)
-}
-
-/// Crossed halves are answered 0.
-fn crossed_unseen(r: Record, m: &mut [u8], k: u8, b: u8, w: u32) -> (u8, u8, Record) {
-    let (answer, byte, new) = model::transfer(r, m, k, b, w);
-    let answer = if answer == model::CROSSED {
-        model::DONE
-    } else {
-        answer
-    };
-    (answer, byte, new)
-}
-
-/// A crossed read gives nothing to the write that completes it.
-fn crossed_read_silent(r: Record, m: &mut [u8], k: u8, b: u8, w: u32) -> (u8, u8, Record) {
-    let (answer, byte, new) = model::transfer(r, m, k, b, w);
-    let byte = if answer == model::CROSSED { 0x00 } else { byte };
-    (answer, byte, new)
-}
-
-/// The pattern counter runs down from 0 to 63 only when writing; a read stays at 0.
-fn pattern_read_stops(r: Record, m: &mut [u8], k: u8, b: u8, w: u32) -> (u8, u8, Record) {
-    let (answer, byte, mut new) = model::transfer(r, m, k, b, w);
-    if completed_read(&r, k, answer) && !r.id && r.counter == Counter::Pattern(0) {
-        new.counter = Counter::Pattern(0);
-    }
-    (answer, byte, new)
-}
-
-/// A reader that takes a carriage return before the newline.
-fn reads_carriage_return(text: &[u8]) -> (u8, Line) {
-    let (answer, line) = model::read_line(text);
-    if answer == model::DONE {
-        return (answer, line);
-    }
-    if let Some(at) = text.windows(2).position(|pair| pair == b"\r\n") {
-        let mut fixed = text[..at].to_vec();
-        fixed.push(b'\n');
-        let (answer, mut line) = model::read_line(&fixed);
-        if answer == model::DONE && line.length == at + 1 {
-            line.length = at + 2;
-            return (answer, line);
-        }
-    }
-    (answer, line)
-}
-
-/// A reader that wraps a wait above the limit.
-fn reads_great_waits(text: &[u8]) -> (u8, Line) {
-    let (answer, line) = model::read_line(text);
-    let newline = text.iter().position(|&byte| byte == b'\n');
-    if let (model::BAD_LINE, Some(end @ 16)) = (answer, newline.map(|at| at + 1)) {
-        let digits = std::str::from_utf8(&text[5..end - 1]).unwrap_or("");
-        if let Ok(wait @ 4_294_967_296..) = digits.parse::<u64>() {
-            let mut fixed = text[..5].to_vec();
-            fixed.extend_from_slice(b"0\n");
-            let (answer, mut line) = model::read_line(&fixed);
-            if answer == model::DONE {
-                line.wait = wait as u32;
-                line.length = end;
-                return (answer, line);
-            }
-        }
-    }
-    (answer, line)
-}
-
-/// A reader that takes the end of the text for a newline.
-fn reads_no_newline(text: &[u8]) -> (u8, Line) {
-    if text.contains(&b'\n') {
-        return model::read_line(text);
-    }
-    let mut fixed = text.to_vec();
-    fixed.push(b'\n');
-    let (answer, mut line) = model::read_line(&fixed);
-    line.length = line.length.min(text.len());
-    (answer, line)
-}
-
-const WRONG_STEPS: [(&str, Step); 12] = [
-    ("clear-increments", clear_increments),
-    ("clear-keeps-fresh", clear_keeps_fresh),
-    ("read-stays", read_stays),
-    ("pattern-move-fresh", pattern_move_fresh),
-    ("nothing-takes-nothing", nothing_takes_nothing),
-    ("no-cell-takes-time", no_cell_takes_time),
-    ("n-keeps-address", n_keeps_address),
-    ("refusal-counts-no-wait", refusal_counts_no_wait),
-    ("crossed-unseen", crossed_unseen),
-    ("crossed-read-silent", crossed_read_silent),
-    ("pattern-read-stops", pattern_read_stops),
-    ("read-shifts", read_shifts),
-];
-
-const WRONG_READERS: [(&str, Reader); 3] = [
-    ("carriage-return", reads_carriage_return),
-    ("great-waits", reads_great_waits),
-    ("no-newline", reads_no_newline),
-];
-
-const RIGHT: Model = Model {
-    read: model::read_line,
-    step: model::transfer,
-};
-
-fn wrong_models() -> Vec<(&'static str, Model)> {
-    let steps = WRONG_STEPS
-        .iter()
-        .map(|&(name, step)| (name, Model { step, ..RIGHT }));
-    let readers = WRONG_READERS
-        .iter()
-        .map(|&(name, read)| (name, Model { read, ..RIGHT }));
-    steps.chain(readers).collect()
-}
-
-// ---------------------------------------------------------------------------
-
-fn usage() -> ! {
-    eprintln!("compare_sessions PROGRAM [SEED] [TEXTS] [--wrong | --wrong=NAME | --wrong=all]");
-    let names: Vec<&str> = wrong_models().iter().map(|&(name, _)| name).collect();
-    eprintln!("wrong models: {}", names.join(", "));
-    exit(2)
-}
-
 fn main() {
-    let mut wrong = None;
-    let mut plain = Vec::new();
-    for argument in env::args().skip(1) {
-        if argument == "--wrong" {
-            wrong = Some("clear-increments".to_string());
-        } else if let Some(name) = argument.strip_prefix("--wrong=") {
-            wrong = Some(name.to_string());
-        } else if argument.starts_with("--") {
-            usage();
-        } else {
-            plain.push(argument);
-        }
-    }
-    if plain.is_empty() || plain.len() > 3 {
-        usage();
-    }
-    let number = |at: usize, otherwise: u64| match plain.get(at) {
-        Some(text) => text.parse().unwrap_or_else(|_| usage()),
-        None => otherwise,
+    let usage = "compare_sessions PROGRAM [SEED] [TEXTS]";
+    let options = Options::read(usage, wrong::of_sessions());
+    let (Some(program), 1..=3) = (options.plain.first(), options.plain.len()) else {
+        options.refuse();
     };
-    let program = plain[0].as_str();
-    let seed = number(1, DEFAULT_SEED);
-    let texts = number(2, DEFAULT_TEXTS);
-
-    match wrong.as_deref() {
-        None => exit(i32::from(compare(program, RIGHT, seed, texts))),
-        Some("all") => {
-            let mut missed = Vec::new();
-            for (name, model) in wrong_models() {
-                println!("== wrong model {name}");
-                if !compare(program, model, seed, texts) {
-                    missed.push(name);
-                }
-            }
-            // No session shows the shift, so this one cannot be found out here.
-            missed.retain(|&name| name != "read-shifts");
-            if missed.is_empty() {
-                println!("== every wrong model that a session can show was found out");
-            } else {
-                println!("== NOT found out: {}", missed.join(", "));
-            }
-            exit(i32::from(!missed.is_empty()));
-        }
-        Some(name) => match wrong_models().iter().find(|&&(each, _)| each == name) {
-            Some(&(_, model)) => exit(i32::from(compare(program, model, seed, texts))),
-            None => usage(),
-        },
-    }
+    let seed = options.number(1, DEFAULT_SEED);
+    let texts = options.number(2, DEFAULT_TEXTS);
+    // No session shows the shift, so that one cannot be found out here.
+    options.compare(&["read-shifts"], |model| {
+        compare(program, model, seed, texts)
+    })
 }

@@ -1,0 +1,176 @@
+//! Compares the proved library with the model, call by call.
+//!
+//! ```text
+//! compare_calls [SEED] [CALLS] [--wrong | --wrong=NAME | --wrong=all]
+//! ```
+//!
+//! Every call goes to both sides with the same bytes; what they return and all the
+//! bytes they were lent must be equal. On a difference the call is made simpler, shown
+//! with both outcomes, and the exit is 1. Every answer that a function can give must
+//! have come up, or the run fails. With `--wrong` a deliberately wrong model takes the
+//! model's place, and the exit is 1 once it is found out; `--wrong=all` tries each, and
+//! the exit is 0 if all were found out.
+
+use yaropesk_model::calls::{answer_of, Model};
+use yaropesk_model::case::{Case, Function, Outcome, FUNCTIONS};
+use yaropesk_model::chance::Chance;
+use yaropesk_model::demand::Trial;
+use yaropesk_model::library::Library;
+use yaropesk_model::options::Options;
+use yaropesk_model::random_calls;
+use yaropesk_model::wrong;
+
+const DEFAULT_SEED: u64 = 44_780;
+const DEFAULT_CALLS: u64 = 2_000_000;
+
+const SEQUENCES: u64 = 200;
+const SEQUENCE_TRANSFERS: u64 = 2_000;
+const TRIALS: u64 = 1_000;
+
+/// The model beside the library, and how often each function has given each answer.
+struct Comparison {
+    model: Model,
+    seed: u64,
+    counts: [[u64; 256]; FUNCTIONS.len()],
+}
+
+/// Why a run stops, ready to be shown.
+type Stop = Result<(), String>;
+
+impl Comparison {
+    /// One call on both sides; what the library left, or the simplest call that differs.
+    fn call(&mut self, case: &Case) -> Result<Outcome, String> {
+        let ours = case.run(&Library);
+        if ours != case.run(&self.model) {
+            return Err(self.difference(case));
+        }
+        let answer = usize::from(answer_of(ours.returned));
+        self.counts[case.function as usize][answer] += 1;
+        Ok(ours)
+    }
+
+    fn difference(&self, case: &Case) -> String {
+        let differs = |case: &Case| case.run(&Library) != case.run(&self.model);
+        let simplest = case.shrunk(differs);
+        let (ours, theirs) = (simplest.run(&Library), simplest.run(&self.model));
+        format!(
+            "{simplest}\nthe library: {}\nthe model: {}",
+            ours.beside(&theirs, simplest.function),
+            theirs.beside(&ours, simplest.function)
+        )
+    }
+
+    /// The generator of number k of a part.
+    fn chance(&self, part: u64, number: u64) -> Chance {
+        Chance::new(self.seed, (part << 32) + number)
+    }
+
+    /// The transfer and the line of every kind 0 to 255 with every byte.
+    fn every_kind_and_byte(&mut self) -> Stop {
+        for number in 0..=u16::MAX {
+            let [kind, byte] = number.to_le_bytes();
+            let mut chance = self.chance(1, number.into());
+            for case in random_calls::kind_and_byte(&mut chance, kind, byte) {
+                self.call(&case)?;
+            }
+        }
+        Ok(())
+    }
+
+    fn random_calls(&mut self, calls: u64) -> Stop {
+        for number in 0..calls {
+            let mut chance = self.chance(2, number);
+            self.call(&random_calls::any_call(&mut chance))?;
+        }
+        Ok(())
+    }
+
+    /// Long sequences of transfers from reset, each from where the one before it left.
+    fn sequences(&mut self) -> Stop {
+        for number in 0..SEQUENCES {
+            let mut chance = self.chance(3, number);
+            let mut case = random_calls::reset_of_anything(&mut chance);
+            for _ in 0..=SEQUENCE_TRANSFERS {
+                let left = self.call(&case)?;
+                case = random_calls::next_transfer(&mut chance, left.buffers);
+            }
+        }
+        Ok(())
+    }
+
+    /// Plans with random cuts, played from random records.
+    fn trials(&mut self) -> Stop {
+        for number in 0..TRIALS {
+            let trial = Trial::random(&mut self.chance(4, number));
+            trial.play(|case| self.call(case))?;
+        }
+        Ok(())
+    }
+
+    /// Every answer that a function can give has come up, and no other.
+    fn all_answers_seen(&self) -> Stop {
+        for function in FUNCTIONS {
+            for (answer, &times) in (0..=255).zip(&self.counts[function as usize]) {
+                if function.answers().contains(&answer) != (times > 0) {
+                    let name = function.name();
+                    return Err(format!("{name} gave answer {answer} {times} times"));
+                }
+            }
+        }
+        Ok(())
+    }
+
+    fn run(&mut self, calls: u64) -> Stop {
+        self.every_kind_and_byte()?;
+        self.random_calls(calls)?;
+        self.sequences()?;
+        self.trials()?;
+        self.all_answers_seen()
+    }
+
+    fn counted(&self, function: Function) -> String {
+        let counts = &self.counts[function as usize];
+        let answers: Vec<String> = function
+            .answers()
+            .iter()
+            .map(|&answer| format!("{answer}: {}", counts[usize::from(answer)]))
+            .collect();
+        let calls: u64 = counts.iter().sum();
+        format!(
+            "{} {calls} calls, answers {}",
+            function.name(),
+            answers.join(", ")
+        )
+    }
+}
+
+/// Compares; true when a difference was found, or an answer missed (and shown).
+fn compare(model: Model, seed: u64, calls: u64) -> bool {
+    let mut comparison = Comparison {
+        model,
+        seed,
+        counts: [[0; 256]; FUNCTIONS.len()],
+    };
+    let stop = comparison.run(calls);
+    if let Err(why) = &stop {
+        println!("difference, seed {seed}: {why}");
+        return true;
+    }
+    let all: u64 = comparison.counts.iter().flatten().sum();
+    println!("{all} calls of seed {seed}: no difference");
+    for function in FUNCTIONS {
+        println!("  {}", comparison.counted(function));
+    }
+    println!("  {SEQUENCES} sequences of {SEQUENCE_TRANSFERS} transfers from reset, {TRIALS} plans with random cuts");
+    false
+}
+
+fn main() {
+    let options = Options::read("compare_calls [SEED] [CALLS]", wrong::of_calls());
+    if options.plain.len() > 2 {
+        options.refuse();
+    }
+    let seed = options.number(0, DEFAULT_SEED);
+    let calls = options.number(1, DEFAULT_CALLS);
+    options.compare(&[], |model| compare(model, seed, calls))
+}

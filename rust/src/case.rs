@@ -1,0 +1,267 @@
+//! One call as data: it can be run on either side, made simpler, and shown.
+
+use std::fmt::{self, Display, Formatter};
+
+use crate::calls::{answer_of, value_of, Calls, RECORD_BYTES, WISH_BYTES};
+
+/// The six functions, in the order of the header.
+#[derive(Clone, Copy, Debug, PartialEq, Eq)]
+pub enum Function {
+    Reset,
+    Transfer,
+    Picture,
+    Plan,
+    WriteLine,
+    ReadLine,
+}
+
+pub const FUNCTIONS: [Function; 6] = [
+    Function::Reset,
+    Function::Transfer,
+    Function::Picture,
+    Function::Plan,
+    Function::WriteLine,
+    Function::ReadLine,
+];
+
+impl Function {
+    pub fn name(self) -> &'static str {
+        match self {
+            Function::Reset => "reset",
+            Function::Transfer => "transfer",
+            Function::Picture => "picture",
+            Function::Plan => "plan",
+            Function::WriteLine => "write_line",
+            Function::ReadLine => "read_line",
+        }
+    }
+
+    /// The answers that it can give. 9 is none of them: a counter on no cell makes the
+    /// record unsound, and 1 comes before 9.
+    pub fn answers(self) -> &'static [u8] {
+        match self {
+            Function::Reset => &[0, 1, 2],
+            Function::Transfer => &[0, 1, 2, 3, 4, 5, 6, 7, 8],
+            Function::Picture => &[0, 1, 2, 10, 11],
+            Function::Plan => &[0, 2, 11, 13],
+            Function::WriteLine => &[0, 3, 11],
+            Function::ReadLine => &[0, 11, 12],
+        }
+    }
+
+    fn buffers(self) -> &'static [&'static str] {
+        match self {
+            Function::Reset | Function::Transfer => &["record", "memory"],
+            Function::Picture => &["record", "memory", "out"],
+            Function::Plan => &["wish", "marks", "values", "out"],
+            Function::WriteLine => &["out"],
+            Function::ReadLine => &["text", "out"],
+        }
+    }
+
+    fn numbers(self) -> &'static [&'static str] {
+        match self {
+            Function::Transfer | Function::WriteLine => &["kind", "byte", "wait"],
+            Function::Picture => &["columns", "lines", "lit"],
+            Function::Reset | Function::Plan | Function::ReadLine => &[],
+        }
+    }
+}
+
+/// A call: the bytes that are lent and the numbers that are given, in the order of
+/// `Function::buffers` and `Function::numbers`. Numbers that are not used are 0.
+#[derive(Clone, Debug, PartialEq, Eq)]
+pub struct Case {
+    pub function: Function,
+    pub buffers: Vec<Vec<u8>>,
+    pub numbers: [u32; 3],
+}
+
+/// What a call returned, and all the bytes that it was lent as it left them.
+#[derive(Clone, Debug, PartialEq, Eq)]
+pub struct Outcome {
+    pub returned: u32,
+    pub buffers: Vec<Vec<u8>>,
+}
+
+impl Case {
+    pub fn run(&self, calls: &impl Calls) -> Outcome {
+        let [first, second, third] = self.numbers;
+        let (one, two) = (first as u8, second as u8);
+        let mut buffers = self.buffers.clone();
+        let returned = match (self.function, &mut buffers[..]) {
+            (Function::Reset, [record, memory]) => calls.reset(record, memory),
+            (Function::Transfer, [record, memory]) => {
+                calls.transfer(record, memory, one, two, third)
+            }
+            (Function::Picture, [record, memory, out]) => {
+                calls.picture(record, memory, one, two, third as u8, out)
+            }
+            (Function::Plan, [wish, marks, values, out]) => calls.plan(wish, marks, values, out),
+            (Function::WriteLine, [out]) => calls.write_line(one, two, third, out),
+            (Function::ReadLine, [text, out]) => calls.read_line(text, out),
+            _ => panic!("{} with {} buffers", self.function.name(), buffers.len()),
+        };
+        Outcome { returned, buffers }
+    }
+
+    /// The simplest call found that still shows what `shows` asks for: first with less
+    /// lent, then with bytes turned to zero, then with smaller numbers.
+    pub fn shrunk(&self, shows: impl Fn(&Case) -> bool) -> Case {
+        let mut case = self.clone();
+        loop {
+            let before = case.clone();
+            for which in 0..case.buffers.len() {
+                case.shorten(which, &shows);
+                case.blank(which, &shows);
+            }
+            for which in 0..case.numbers.len() {
+                case.lower(which, &shows);
+            }
+            if case == before {
+                return case;
+            }
+        }
+    }
+
+    /// Takes the change if it still shows the difference.
+    fn change(&mut self, shows: &impl Fn(&Case) -> bool, change: impl Fn(&mut Case)) -> bool {
+        let mut changed = self.clone();
+        change(&mut changed);
+        let take = changed != *self && shows(&changed);
+        if take {
+            *self = changed;
+        }
+        take
+    }
+
+    /// Cuts bytes off the end of a buffer, many at a time and then one by one.
+    fn shorten(&mut self, which: usize, shows: &impl Fn(&Case) -> bool) {
+        let mut size = self.buffers[which].len();
+        while size > 0 {
+            let length = self.buffers[which].len().saturating_sub(size);
+            if !self.change(shows, |case| case.buffers[which].truncate(length)) {
+                size /= 2;
+            }
+        }
+    }
+
+    /// Turns bytes of a buffer to zero, many at a time and then one by one.
+    fn blank(&mut self, which: usize, shows: &impl Fn(&Case) -> bool) {
+        let length = self.buffers[which].len();
+        let mut size = length;
+        while size > 0 {
+            for from in (0..length).step_by(size) {
+                let to = (from + size).min(length);
+                self.change(shows, |case| case.buffers[which][from..to].fill(0));
+            }
+            size /= 2;
+        }
+    }
+
+    fn lower(&mut self, which: usize, shows: &impl Fn(&Case) -> bool) {
+        let mut size = self.numbers[which];
+        while size > 0 {
+            let number = self.numbers[which].saturating_sub(size);
+            if !self.change(shows, |case| case.numbers[which] = number) {
+                size /= 2;
+            }
+        }
+    }
+}
+
+// ---------------------------------------------------------------------------
+// Shown
+// ---------------------------------------------------------------------------
+
+const RECORD_FIELDS: [&str; 15] = [
+    "width", "N", "F", "D", "C", "B", "I/D", "S", "shift", "memory", "cell", "register", "fresh",
+    "half", "value",
+];
+
+const WISH_FIELDS: [&str; 9] = ["N", "F", "D", "C", "B", "I/D", "S", "shift", "cursor"];
+
+/// The named bytes as `name=number`.
+fn fields(names: &[&str], bytes: &[u8]) -> String {
+    let named: Vec<String> = names
+        .iter()
+        .zip(bytes)
+        .map(|(name, byte)| format!("{name}={byte}"))
+        .collect();
+    named.join(" ")
+}
+
+fn record_shown(bytes: &[u8]) -> String {
+    let named = fields(&RECORD_FIELDS, bytes);
+    let busy = u32::from_le_bytes([bytes[16], bytes[17], bytes[18], bytes[19]]);
+    let zeros = (hex(&bytes[15..16]), hex(&bytes[20..]));
+    format!("{named} busy={busy} zeros {} and {}", zeros.0, zeros.1)
+}
+
+fn wish_shown(bytes: &[u8]) -> String {
+    format!("{} zeros {}", fields(&WISH_FIELDS, bytes), hex(&bytes[9..]))
+}
+
+/// Bytes in hex; equal ones in a row are counted.
+fn hex(bytes: &[u8]) -> String {
+    let runs: Vec<String> = bytes
+        .chunk_by(|one, next| one == next)
+        .map(|run| match run.len() {
+            1 => format!("{:02X}", run[0]),
+            times => format!("{:02X}x{times}", run[0]),
+        })
+        .collect();
+    runs.join(" ")
+}
+
+pub fn shown(name: &str, bytes: &[u8]) -> String {
+    let content = match (name, bytes.len()) {
+        ("record", RECORD_BYTES) => record_shown(bytes),
+        ("wish", WISH_BYTES) => wish_shown(bytes),
+        ("text", _) => format!("\"{}\"", bytes.escape_ascii()),
+        _ => hex(bytes),
+    };
+    format!("{name} ({} bytes): {content}", bytes.len())
+}
+
+impl Display for Case {
+    fn fmt(&self, to: &mut Formatter) -> fmt::Result {
+        write!(to, "{}", self.function.name())?;
+        for (name, number) in self.function.numbers().iter().zip(self.numbers) {
+            write!(to, " {name} {number} ({number:02X}h)")?;
+        }
+        for (name, bytes) in self.function.buffers().iter().zip(&self.buffers) {
+            write!(to, "\n  {}", shown(name, bytes))?;
+        }
+        Ok(())
+    }
+}
+
+impl Outcome {
+    /// What it returned, and what it left otherwise than the other outcome: a record
+    /// whole, and of other bytes those that differ.
+    pub fn beside(&self, other: &Outcome, function: Function) -> String {
+        let (answer, value) = (answer_of(self.returned), value_of(self.returned));
+        let mut text = format!("answer {answer}, value {value} ({value:02X}h)");
+        let buffers = self.buffers.iter().zip(&other.buffers);
+        for (&name, (mine, theirs)) in function.buffers().iter().zip(buffers) {
+            match name {
+                _ if mine == theirs => {}
+                "record" => text.push_str(&format!("\n  {}", shown(name, mine))),
+                _ => text.push_str(&format!("\n  {name}{}", differing(mine, theirs))),
+            }
+        }
+        text
+    }
+}
+
+/// The first bytes of `mine` that are not those of `theirs`, each after its place.
+fn differing(mine: &[u8], theirs: &[u8]) -> String {
+    const MOST: usize = 24;
+    let bytes = mine.iter().zip(theirs).enumerate();
+    bytes
+        .filter(|(_, (mine, theirs))| mine != theirs)
+        .take(MOST)
+        .map(|(at, (mine, _))| format!(" [{at}]={mine:02X}"))
+        .collect()
+}

@@ -1,0 +1,166 @@
+//! Demand 3, played: "Take any wish for the panel that the planner accepts and any
+//! sound controller that keeps its power. Send the plan, each wait at least as long as
+//! asked. Stop after any transfer, or before the first, begin the same plan again, as
+//! often as you like, sending nothing in between. Let the last run finish. The panel
+//! then stands as wished, no transfer was refused as busy, and every cell the wish does
+//! not name holds what it held before the first run. One cell is excepted: the one that
+//! a data write, half sent by whomever and still waiting when we began, was meant for."
+
+use std::fmt::{self, Display, Formatter};
+
+use crate::calls::{answer_of, bytes_of, transfers_of, value_of, wish_of, TRANSFER_BYTES};
+use crate::case::{shown, Case, Function, Outcome};
+use crate::chance::Chance;
+use crate::model::{self, Counter, Half, Record, Wish, MEMORY, PLAN_BYTES, SHORT_TIME};
+use crate::random_calls::{sound_marks, sound_record, sound_wish, whole_memory};
+
+/// A start, a wish, and the places where the board stops.
+pub struct Trial {
+    start: Record,
+    memory: Vec<u8>,
+    wish: Vec<u8>,
+    marks: Vec<u8>,
+    values: Vec<u8>,
+    /// Where each cut run stops, of a hundred parts of the plan.
+    cuts: Vec<u64>,
+    /// How much longer than asked the board waits, used in turn.
+    longer: Vec<u32>,
+}
+
+/// Where a trial stands: the bytes of the record and of the memory.
+struct Panel {
+    record: Vec<u8>,
+    memory: Vec<u8>,
+}
+
+impl Trial {
+    pub fn random(chance: &mut Chance) -> Trial {
+        let longer = [0, 0, 0, 1, 39, 10_000, u32::MAX];
+        Trial {
+            start: sound_record(chance),
+            memory: whole_memory(chance),
+            wish: sound_wish(chance),
+            marks: sound_marks(chance),
+            values: chance.bytes(MEMORY),
+            cuts: (0..chance.below(6)).map(|_| chance.below(101)).collect(),
+            longer: (0..7).map(|_| chance.pick(&longer)).collect(),
+        }
+    }
+
+    /// Plays the trial, each call through `call`; what went wrong, if anything did.
+    pub fn play(
+        &self,
+        mut call: impl FnMut(&Case) -> Result<Outcome, String>,
+    ) -> Result<(), String> {
+        let planned = call(&self.planning())?;
+        let length = value_of(planned.returned) * TRANSFER_BYTES;
+        let plan = transfers_of(&planned.buffers[3][..length]);
+        let mut panel = Panel {
+            record: bytes_of(&self.start).to_vec(),
+            memory: self.memory.clone(),
+        };
+        for &cut in &self.cuts {
+            let stop = plan.len() * cut as usize / 100;
+            self.send(&plan[..stop], &mut panel, &mut call)?;
+        }
+        self.send(&plan, &mut panel, &mut call)?;
+        self.stands(&panel)
+            .map_err(|fault| format!("demand 3: {fault}\n{self}"))
+    }
+
+    fn planning(&self) -> Case {
+        Case {
+            function: Function::Plan,
+            buffers: vec![
+                self.wish.clone(),
+                self.marks.clone(),
+                self.values.clone(),
+                vec![0; PLAN_BYTES],
+            ],
+            numbers: [0; 3],
+        }
+    }
+
+    /// One run of the plan, or the beginning of one.
+    fn send(
+        &self,
+        transfers: &[(u8, u8, u32)],
+        panel: &mut Panel,
+        call: &mut impl FnMut(&Case) -> Result<Outcome, String>,
+    ) -> Result<(), String> {
+        for (&(kind, byte, wait), longer) in transfers.iter().zip(self.longer.iter().cycle()) {
+            let case = Case {
+                function: Function::Transfer,
+                buffers: vec![
+                    std::mem::take(&mut panel.record),
+                    std::mem::take(&mut panel.memory),
+                ],
+                numbers: [kind.into(), byte.into(), wait.saturating_add(*longer)],
+            };
+            let outcome = call(&case)?;
+            if answer_of(outcome.returned) == model::BUSY {
+                return Err(format!("demand 3: refused as busy: {case}\n{self}"));
+            }
+            if let [record, memory] = &outcome.buffers[..] {
+                panel.record.clone_from(record);
+                panel.memory.clone_from(memory);
+            }
+        }
+        Ok(())
+    }
+
+    /// "The panel then stands as wished", and the cells that are not named are spared.
+    fn stands(&self, panel: &Panel) -> Result<(), String> {
+        let excepted = match (self.start.half, self.start.counter) {
+            (Half::DataWrite(_), Counter::Display(cell)) => Some(usize::from(cell)),
+            (Half::DataWrite(_), Counter::Pattern(cell)) => Some(80 + usize::from(cell)),
+            _ => None,
+        };
+        for cell in 0..MEMORY {
+            let named = self.marks[cell] == 1;
+            let due = if named { &self.values } else { &self.memory }[cell];
+            let found = panel.memory[cell];
+            if found != due && (named || excepted != Some(cell)) {
+                return Err(format!("cell {cell} holds {found:02X}h, not {due:02X}h"));
+            }
+        }
+        let wish = wish_of(&self.wish).ok_or("the planner took what is no wish")?;
+        let due = bytes_of(&wished_record(&wish, &panel.memory));
+        if panel.record != due {
+            let (found, due) = (shown("record", &panel.record), shown("record", &due));
+            return Err(format!("the record is not as wished:\n  {found}\n  {due}"));
+        }
+        Ok(())
+    }
+}
+
+/// Decision 13: "Stands as wished" fixes the whole record.
+fn wished_record(wish: &Wish, memory: &[u8]) -> Record {
+    Record {
+        width: 4,
+        n: wish.n,
+        f: wish.f,
+        d: wish.d,
+        c: wish.c,
+        b: wish.b,
+        id: wish.id,
+        s: wish.s,
+        shift: wish.shift,
+        counter: Counter::Display(wish.cursor),
+        register: memory[usize::from(wish.cursor)],
+        fresh: true,
+        half: Half::None,
+        busy: SHORT_TIME,
+    }
+}
+
+impl Display for Trial {
+    fn fmt(&self, to: &mut Formatter) -> fmt::Result {
+        writeln!(to, "  start {}", shown("record", &bytes_of(&self.start)))?;
+        writeln!(to, "  start {}", shown("memory", &self.memory))?;
+        writeln!(to, "  {}", shown("wish", &self.wish))?;
+        writeln!(to, "  {}", shown("marks", &self.marks))?;
+        writeln!(to, "  {}", shown("values", &self.values))?;
+        write!(to, "  cut after {:?} hundredths of the plan", self.cuts)
+    }
+}

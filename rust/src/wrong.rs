@@ -1,0 +1,597 @@
+//! Deliberately wrong models: a comparison that misses one of them is worth nothing.
+
+use crate::calls::{self, Model, MODEL};
+use crate::model::{self, Counter, Half, Line, Reader, Record, Step, Wish, FONT};
+
+// ---------------------------------------------------------------------------
+// Transfers
+// ---------------------------------------------------------------------------
+
+/// The byte of the instruction that this transfer has completed, if it has one.
+fn completed_instruction(before: &Record, kind: u8, byte: u8, answer: u8) -> Option<u8> {
+    let done = answer == model::DONE || answer == model::CROSSED;
+    match before.half {
+        Half::InstructionWrite(high) if done => Some((high << 4) | (byte >> 4)),
+        Half::None if done && kind == model::INSTRUCTION_WRITE => Some(byte),
+        _ => None,
+    }
+}
+
+/// Has a data read been completed by this transfer?
+fn completed_read(before: &Record, kind: u8, answer: u8) -> bool {
+    let done = matches!(answer, model::DONE | model::STALE | model::CROSSED);
+    match before.half {
+        Half::DataRead(_) => done,
+        Half::None => done && kind == model::DATA_READ,
+        _ => false,
+    }
+}
+
+/// Clear sets I/D=1, as document 003 has it.
+fn clear_increments(
+    before: Record,
+    memory: &mut [u8],
+    kind: u8,
+    byte: u8,
+    wait: u32,
+) -> (u8, u8, Record) {
+    let (answer, read, mut new) = model::transfer(before, memory, kind, byte, wait);
+    if completed_instruction(&before, kind, byte, answer) == Some(0x01) {
+        new.id = true;
+    }
+    (answer, read, new)
+}
+
+/// Clear leaves a fresh register fresh.
+fn clear_keeps_fresh(
+    before: Record,
+    memory: &mut [u8],
+    kind: u8,
+    byte: u8,
+    wait: u32,
+) -> (u8, u8, Record) {
+    let (answer, read, mut new) = model::transfer(before, memory, kind, byte, wait);
+    if completed_instruction(&before, kind, byte, answer) == Some(0x01) {
+        new.fresh = before.fresh;
+    }
+    (answer, read, new)
+}
+
+/// A data read with S=1 shifts the display. No session shows the shift: this one is
+/// found out by calls alone.
+fn read_shifts(
+    before: Record,
+    memory: &mut [u8],
+    kind: u8,
+    byte: u8,
+    wait: u32,
+) -> (u8, u8, Record) {
+    let (answer, read, mut new) = model::transfer(before, memory, kind, byte, wait);
+    if completed_read(&before, kind, answer) && new.s && matches!(new.counter, Counter::Display(_))
+    {
+        new.shift = (new.shift + if new.id { 1 } else { 79 }) % 80;
+    }
+    (answer, read, new)
+}
+
+/// A data read leaves the counter where it was.
+fn read_stays(
+    before: Record,
+    memory: &mut [u8],
+    kind: u8,
+    byte: u8,
+    wait: u32,
+) -> (u8, u8, Record) {
+    let (answer, read, mut new) = model::transfer(before, memory, kind, byte, wait);
+    if completed_read(&before, kind, answer) {
+        new.counter = before.counter;
+    }
+    (answer, read, new)
+}
+
+/// A cursor move in pattern memory keeps a fresh register fresh.
+fn pattern_move_fresh(
+    before: Record,
+    memory: &mut [u8],
+    kind: u8,
+    byte: u8,
+    wait: u32,
+) -> (u8, u8, Record) {
+    let (answer, read, mut new) = model::transfer(before, memory, kind, byte, wait);
+    if let (Some(0x10..=0x17), Counter::Pattern(_)) = (
+        completed_instruction(&before, kind, byte, answer),
+        new.counter,
+    ) {
+        new.fresh = before.fresh;
+    }
+    (answer, read, new)
+}
+
+/// Instruction 00h takes no time.
+fn nothing_takes_nothing(
+    before: Record,
+    memory: &mut [u8],
+    kind: u8,
+    byte: u8,
+    wait: u32,
+) -> (u8, u8, Record) {
+    let (answer, read, mut new) = model::transfer(before, memory, kind, byte, wait);
+    if completed_instruction(&before, kind, byte, answer) == Some(0x00) {
+        new.busy = 0;
+    }
+    (answer, read, new)
+}
+
+/// An address without a cell takes its 40.
+fn no_cell_takes_time(
+    before: Record,
+    memory: &mut [u8],
+    kind: u8,
+    byte: u8,
+    wait: u32,
+) -> (u8, u8, Record) {
+    let (answer, read, mut new) = model::transfer(before, memory, kind, byte, wait);
+    if answer == model::NO_CELL {
+        new.busy = model::SHORT_TIME;
+    }
+    (answer, read, new)
+}
+
+/// Changing N keeps the address instead of the cell.
+fn n_keeps_address(
+    before: Record,
+    memory: &mut [u8],
+    kind: u8,
+    byte: u8,
+    wait: u32,
+) -> (u8, u8, Record) {
+    let (answer, read, mut new) = model::transfer(before, memory, kind, byte, wait);
+    if let Counter::Display(cell) = new.counter {
+        let cell = match (before.n, new.n) {
+            (true, false) if cell >= 40 => (cell + 24) % 80,
+            (false, true) if cell >= 64 => cell - 24,
+            _ => cell,
+        };
+        new.counter = Counter::Display(cell);
+    }
+    (answer, read, new)
+}
+
+/// A busy refusal does not count its wait.
+fn refusal_counts_no_wait(
+    before: Record,
+    memory: &mut [u8],
+    kind: u8,
+    byte: u8,
+    wait: u32,
+) -> (u8, u8, Record) {
+    let (answer, read, new) = model::transfer(before, memory, kind, byte, wait);
+    if answer == model::BUSY {
+        return (answer, read, before);
+    }
+    (answer, read, new)
+}
+
+/// Crossed halves are answered 0.
+fn crossed_unseen(
+    before: Record,
+    memory: &mut [u8],
+    kind: u8,
+    byte: u8,
+    wait: u32,
+) -> (u8, u8, Record) {
+    let (answer, read, new) = model::transfer(before, memory, kind, byte, wait);
+    let answer = if answer == model::CROSSED {
+        model::DONE
+    } else {
+        answer
+    };
+    (answer, read, new)
+}
+
+/// A crossed read gives nothing to the write that completes it.
+fn crossed_read_silent(
+    before: Record,
+    memory: &mut [u8],
+    kind: u8,
+    byte: u8,
+    wait: u32,
+) -> (u8, u8, Record) {
+    let (answer, read, new) = model::transfer(before, memory, kind, byte, wait);
+    let read = if answer == model::CROSSED { 0x00 } else { read };
+    (answer, read, new)
+}
+
+/// The pattern counter runs down from 0 to 63 only when writing; a read stays at 0.
+fn pattern_read_stops(
+    before: Record,
+    memory: &mut [u8],
+    kind: u8,
+    byte: u8,
+    wait: u32,
+) -> (u8, u8, Record) {
+    let (answer, read, mut new) = model::transfer(before, memory, kind, byte, wait);
+    if completed_read(&before, kind, answer) && !before.id && before.counter == Counter::Pattern(0)
+    {
+        new.counter = Counter::Pattern(0);
+    }
+    (answer, read, new)
+}
+
+// ---------------------------------------------------------------------------
+// Readers of lines
+// ---------------------------------------------------------------------------
+
+/// A reader that takes a carriage return before the newline.
+fn reads_carriage_return(text: &[u8]) -> (u8, Line) {
+    let (answer, line) = model::read_line(text);
+    if answer == model::DONE {
+        return (answer, line);
+    }
+    if let Some(at) = text.windows(2).position(|pair| pair == b"\r\n") {
+        let mut fixed = text[..at].to_vec();
+        fixed.push(b'\n');
+        let (answer, mut line) = model::read_line(&fixed);
+        if answer == model::DONE && line.length == at + 1 {
+            line.length = at + 2;
+            return (answer, line);
+        }
+    }
+    (answer, line)
+}
+
+/// A reader that wraps a wait above the limit.
+fn reads_great_waits(text: &[u8]) -> (u8, Line) {
+    let (answer, line) = model::read_line(text);
+    let newline = text.iter().position(|&byte| byte == b'\n');
+    if let (model::BAD_LINE, Some(end @ 16)) = (answer, newline.map(|at| at + 1)) {
+        let digits = std::str::from_utf8(&text[5..end - 1]).unwrap_or("");
+        if let Ok(wait @ 4_294_967_296..) = digits.parse::<u64>() {
+            let mut fixed = text[..5].to_vec();
+            fixed.extend_from_slice(b"0\n");
+            let (answer, mut line) = model::read_line(&fixed);
+            if answer == model::DONE {
+                line.wait = wait as u32;
+                line.length = end;
+                return (answer, line);
+            }
+        }
+    }
+    (answer, line)
+}
+
+/// A reader that takes the end of the text for a newline.
+fn reads_no_newline(text: &[u8]) -> (u8, Line) {
+    if text.contains(&b'\n') {
+        return model::read_line(text);
+    }
+    let mut fixed = text.to_vec();
+    fixed.push(b'\n');
+    let (answer, mut line) = model::read_line(&fixed);
+    line.length = line.length.min(text.len());
+    (answer, line)
+}
+
+// ---------------------------------------------------------------------------
+// What no session shows
+// ---------------------------------------------------------------------------
+
+/// Busy is over one microsecond too late.
+fn busy_one_off(
+    before: Record,
+    memory: &mut [u8],
+    kind: u8,
+    byte: u8,
+    wait: u32,
+) -> (u8, u8, Record) {
+    if before.busy > 0 && before.busy == wait {
+        return model::transfer(before, memory, kind, byte, wait - 1);
+    }
+    model::transfer(before, memory, kind, byte, wait)
+}
+
+/// A kind above 3 is refused, and its wait counted.
+fn bad_kind_counts_wait(
+    before: Record,
+    memory: &mut [u8],
+    kind: u8,
+    byte: u8,
+    wait: u32,
+) -> (u8, u8, Record) {
+    let (answer, read, mut new) = model::transfer(before, memory, kind, byte, wait);
+    if answer == model::WRONG_KIND {
+        new.busy = new.busy.saturating_sub(wait);
+    }
+    (answer, read, new)
+}
+
+/// Byte 23 of a record, which must be zero, is not looked at.
+fn last_byte_unseen(bytes: &[u8]) -> Option<Record> {
+    let mut bytes = bytes.to_vec();
+    if bytes.len() == calls::RECORD_BYTES {
+        bytes[23] = 0;
+    }
+    calls::record_of(&bytes)
+}
+
+/// Reset clears the pattern cells too.
+fn reset_clears_patterns(record: Record, memory: &mut [u8]) -> (u8, Record) {
+    let (answer, new) = model::reset(record, memory);
+    if answer == model::DONE {
+        memory[80..].fill(0x00);
+    }
+    (answer, new)
+}
+
+/// Reset leaves the display on.
+fn reset_leaves_on(record: Record, memory: &mut [u8]) -> (u8, Record) {
+    let (answer, new) = model::reset(record, memory);
+    (answer, Record { d: true, ..new })
+}
+
+/// With N=0 line 2 is drawn too, as the second forty cells.
+fn second_line_drawn(
+    record: &Record,
+    memory: &[u8],
+    columns: u8,
+    lines: u8,
+    lit: bool,
+    out: &mut [u8],
+    font: &[u8; FONT],
+) -> u8 {
+    let two_lines = Record {
+        n: record.n || lines == 2,
+        ..*record
+    };
+    model::picture(&two_lines, memory, columns, lines, lit, out, font)
+}
+
+/// The blinking place is lit in both phases.
+fn always_lit(
+    record: &Record,
+    memory: &[u8],
+    columns: u8,
+    lines: u8,
+    _lit: bool,
+    out: &mut [u8],
+    font: &[u8; FONT],
+) -> u8 {
+    model::picture(record, memory, columns, lines, true, out, font)
+}
+
+/// One byte past the picture is overwritten.
+fn picture_runs_over(
+    record: &Record,
+    memory: &[u8],
+    columns: u8,
+    lines: u8,
+    lit: bool,
+    out: &mut [u8],
+    font: &[u8; FONT],
+) -> u8 {
+    let answer = model::picture(record, memory, columns, lines, lit, out, font);
+    let wanted = usize::from(columns) * usize::from(lines) * 8;
+    if let (model::DONE, Some(past)) = (answer, out.get_mut(wanted)) {
+        *past = 0;
+    }
+    answer
+}
+
+/// The second wait of a plan is one less.
+fn second_wait_less(wish: &Wish, marks: &[u8], values: &[u8], out: &mut [u8]) -> (u8, usize) {
+    let (answer, count) = model::plan(wish, marks, values, out);
+    if answer == model::DONE {
+        out[8] -= 1;
+    }
+    (answer, count)
+}
+
+/// The screen is cleared where it should be homed, "which empties the spare cells".
+pub fn plan_clears(wish: &Wish, marks: &[u8], values: &[u8], out: &mut [u8]) -> (u8, usize) {
+    let (answer, count) = model::plan(wish, marks, values, out);
+    if answer == model::DONE {
+        // The second half of Home is the twelfth record.
+        out[6 * 11 + 1] = 0x10;
+    }
+    (answer, count)
+}
+
+/// "one that writes only the first marked cell".
+pub fn first_mark_alone(wish: &Wish, marks: &[u8], values: &[u8], out: &mut [u8]) -> (u8, usize) {
+    let mut first = marks.to_vec();
+    if let Some(at) = marks.iter().position(|&mark| mark == 1) {
+        for mark in &mut first[at + 1..] {
+            *mark &= 0xFE;
+        }
+    }
+    model::plan(wish, &first, values, out)
+}
+
+/// A buffer that is just long enough for its plan is taken.
+fn short_plan_taken(wish: &Wish, marks: &[u8], values: &[u8], out: &mut [u8]) -> (u8, usize) {
+    let mut room = vec![0; model::PLAN_BYTES];
+    let (answer, count) = model::plan(wish, marks, values, &mut room);
+    let length = count * calls::TRANSFER_BYTES;
+    if answer != model::DONE || out.len() < length {
+        return model::plan(wish, marks, values, out);
+    }
+    out[..length].copy_from_slice(&room[..length]);
+    (answer, count)
+}
+
+/// The tenth digit of a wait is lost.
+fn digit_lost(kind: u8, byte: u8, wait: u32, out: &mut [u8]) -> (u8, usize) {
+    let shorter = if wait >= 1_000_000_000 {
+        wait / 10
+    } else {
+        wait
+    };
+    model::write_line(kind, byte, shorter, out)
+}
+
+/// What is left of the sixteen bytes of a line is filled with zeros.
+fn line_runs_over(kind: u8, byte: u8, wait: u32, out: &mut [u8]) -> (u8, usize) {
+    let (answer, length) = model::write_line(kind, byte, wait, out);
+    if answer == model::DONE {
+        out[length..model::LINE_BYTES].fill(0);
+    }
+    (answer, length)
+}
+
+/// A reader that takes lower-case hex digits.
+fn reads_lower_case(text: &[u8]) -> (u8, Line) {
+    let mut upper = text.to_vec();
+    for digit in upper.iter_mut().take(4).skip(2) {
+        digit.make_ascii_uppercase();
+    }
+    model::read_line(&upper)
+}
+
+// ---------------------------------------------------------------------------
+// All of them
+// ---------------------------------------------------------------------------
+
+const WRONG_STEPS: [(&str, Step); 12] = [
+    ("clear-increments", clear_increments),
+    ("clear-keeps-fresh", clear_keeps_fresh),
+    ("read-stays", read_stays),
+    ("pattern-move-fresh", pattern_move_fresh),
+    ("nothing-takes-nothing", nothing_takes_nothing),
+    ("no-cell-takes-time", no_cell_takes_time),
+    ("n-keeps-address", n_keeps_address),
+    ("refusal-counts-no-wait", refusal_counts_no_wait),
+    ("crossed-unseen", crossed_unseen),
+    ("crossed-read-silent", crossed_read_silent),
+    ("pattern-read-stops", pattern_read_stops),
+    ("read-shifts", read_shifts),
+];
+
+const WRONG_READERS: [(&str, Reader); 3] = [
+    ("carriage-return", reads_carriage_return),
+    ("great-waits", reads_great_waits),
+    ("no-newline", reads_no_newline),
+];
+
+/// The wrong models that play sessions.
+pub fn of_sessions() -> Vec<(&'static str, Model)> {
+    let steps = WRONG_STEPS
+        .iter()
+        .map(|&(name, transfer)| (name, Model { transfer, ..MODEL }));
+    let readers = WRONG_READERS
+        .iter()
+        .map(|&(name, read_line)| (name, Model { read_line, ..MODEL }));
+    steps.chain(readers).collect()
+}
+
+/// Those, and the ones that only calls find out.
+pub fn of_calls() -> Vec<(&'static str, Model)> {
+    let mut models = of_sessions();
+    models.extend([
+        (
+            "busy-one-off",
+            Model {
+                transfer: busy_one_off,
+                ..MODEL
+            },
+        ),
+        (
+            "bad-kind-counts-wait",
+            Model {
+                transfer: bad_kind_counts_wait,
+                ..MODEL
+            },
+        ),
+        (
+            "last-byte-unseen",
+            Model {
+                record_of: last_byte_unseen,
+                ..MODEL
+            },
+        ),
+        (
+            "reset-clears-patterns",
+            Model {
+                reset: reset_clears_patterns,
+                ..MODEL
+            },
+        ),
+        (
+            "reset-leaves-on",
+            Model {
+                reset: reset_leaves_on,
+                ..MODEL
+            },
+        ),
+        (
+            "second-line-drawn",
+            Model {
+                picture: second_line_drawn,
+                ..MODEL
+            },
+        ),
+        (
+            "always-lit",
+            Model {
+                picture: always_lit,
+                ..MODEL
+            },
+        ),
+        (
+            "picture-runs-over",
+            Model {
+                picture: picture_runs_over,
+                ..MODEL
+            },
+        ),
+        (
+            "second-wait-less",
+            Model {
+                plan: second_wait_less,
+                ..MODEL
+            },
+        ),
+        (
+            "plan-clears",
+            Model {
+                plan: plan_clears,
+                ..MODEL
+            },
+        ),
+        (
+            "first-mark-alone",
+            Model {
+                plan: first_mark_alone,
+                ..MODEL
+            },
+        ),
+        (
+            "short-plan-taken",
+            Model {
+                plan: short_plan_taken,
+                ..MODEL
+            },
+        ),
+        (
+            "digit-lost",
+            Model {
+                write_line: digit_lost,
+                ..MODEL
+            },
+        ),
+        (
+            "line-runs-over",
+            Model {
+                write_line: line_runs_over,
+                ..MODEL
+            },
+        ),
+        (
+            "lower-case",
+            Model {
+                read_line: reads_lower_case,
+                ..MODEL
+            },
+        ),
+    ]);
+    models
+}

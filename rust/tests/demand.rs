@@ -1,0 +1,53 @@
+//! Demand 3 is kept by the library and by the model, and planners that break it are
+//! found out.
+
+use yaropesk_model::calls::{Calls, Model, Planner, MODEL};
+use yaropesk_model::chance::Chance;
+use yaropesk_model::demand::Trial;
+use yaropesk_model::library::Library;
+use yaropesk_model::model::{self, Wish};
+use yaropesk_model::wrong;
+
+/// What went wrong in the first of fifty trials in which something did.
+fn fault(calls: &impl Calls) -> Option<String> {
+    (0..50).find_map(|number| {
+        let trial = Trial::random(&mut Chance::new(1, number));
+        trial.play(|case| Ok(case.run(calls))).err()
+    })
+}
+
+#[test]
+fn the_library_and_the_model_keep_it() {
+    assert_eq!(fault(&Library), None);
+    assert_eq!(fault(&MODEL), None);
+}
+
+/// After the opening every wait is 1, so that the board does not wait for Home.
+fn hurried(wish: &Wish, marks: &[u8], values: &[u8], out: &mut [u8]) -> (u8, usize) {
+    let (answer, count) = model::plan(wish, marks, values, out);
+    for record in out.chunks_exact_mut(6).take(count).skip(5) {
+        record[2..].copy_from_slice(&[1, 0, 0, 0]);
+    }
+    (answer, count)
+}
+
+/// The cursor is forgotten: the last address set is that of cell 0.
+fn cursor_forgotten(wish: &Wish, marks: &[u8], values: &[u8], out: &mut [u8]) -> (u8, usize) {
+    let wish = Wish { cursor: 0, ..*wish };
+    model::plan(&wish, marks, values, out)
+}
+
+#[test]
+fn planners_that_break_it_are_found_out() {
+    let planners: [(Planner, &str); 4] = [
+        (wrong::plan_clears, "cell "),
+        (wrong::first_mark_alone, "cell "),
+        (hurried, "refused as busy"),
+        (cursor_forgotten, "the record is not as wished"),
+    ];
+    for (plan, expected) in planners {
+        let found = fault(&Model { plan, ..MODEL }).unwrap_or_default();
+        let start = format!("demand 3: {expected}");
+        assert!(found.starts_with(&start), "{start:?} in {found:?}");
+    }
+}
