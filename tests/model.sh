@@ -1,9 +1,11 @@
 #!/bin/sh
-# Compares the session program with the independent model under rust/: its own tests, random session texts through both, and
-# wrong models, which must be found out. Where no cargo is found nothing is compared, and that is said.
+# Compares the session program and the library with the independent model under rust/: its own tests, random session texts
+# and random calls through both, and wrong models, which must be found out. Where no cargo is found nothing is compared, and
+# that is said.
 set -eu
 root=$(cd "$(dirname "$0")/.." && pwd)
 program=$root/target/bin/session
+library=$root/target/staticlib/libinterface.a
 cargo=$(command -v cargo || true)
 [ -n "$cargo" ] || cargo=${HOME:-}/.cargo/bin/cargo
 if [ ! -x "$cargo" ]; then
@@ -11,9 +13,12 @@ if [ ! -x "$cargo" ]; then
     exit 0
 fi
 [ -x "$program" ] || { echo "model: $program is not built: run 'rt check session' first" >&2; exit 1; }
+[ -f "$library" ] || { echo "model: $library is not built: run 'rt staticlib interface' first" >&2; exit 1; }
 cd "$root/rust"
 "$cargo" test --release --offline --quiet
 "$cargo" build --release --offline --quiet
-compare=$root/rust/target/release/compare_sessions
-"$compare" "$program"
-"$compare" "$program" --wrong=all
+built=$root/rust/target/release
+"$built/compare_sessions" "$program"
+"$built/compare_sessions" "$program" --wrong=all
+"$built/compare_calls"
+"$built/compare_calls" --wrong=all
