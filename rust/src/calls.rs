@@ -183,21 +183,24 @@ pub fn transfers_of(bytes: &[u8]) -> Vec<(u8, u8, u32)> {
 // The model behind the calls
 // ---------------------------------------------------------------------------
 
-/// A function with the shape of `model::picture`.
+/// Functions with the shapes of `record_of` and of the model's; `Step` and `Reader` are
+/// the model's own names for two of them.
+pub type RecordReader = fn(&[u8]) -> Option<Record>;
+pub type Resetter = fn(Record, &mut [u8]) -> (u8, Record);
 pub type Painter = fn(&Record, &[u8], u8, u8, bool, &mut [u8], &[u8; FONT]) -> u8;
-/// A function with the shape of `model::plan`.
 pub type Planner = fn(&Wish, &[u8], &[u8], &mut [u8]) -> (u8, usize);
+pub type Writer = fn(u8, u8, u32, &mut [u8]) -> (u8, usize);
 
 /// The functions of the model, and the reading of a record's bytes. A wrong model is
 /// this one with a wrong function in it.
 #[derive(Clone, Copy)]
 pub struct Model {
-    pub record_of: fn(&[u8]) -> Option<Record>,
-    pub reset: fn(Record, &mut [u8]) -> (u8, Record),
+    pub record_of: RecordReader,
+    pub reset: Resetter,
     pub transfer: Step,
     pub picture: Painter,
     pub plan: Planner,
-    pub write_line: fn(u8, u8, u32, &mut [u8]) -> (u8, usize),
+    pub write_line: Writer,
     pub read_line: Reader,
 }
 

@@ -10,4 +10,6 @@ pub mod library;
 pub mod model;
 pub mod options;
 pub mod random_calls;
+pub mod random_lines;
+pub mod random_texts;
 pub mod wrong;

@@ -328,7 +328,6 @@ fn second_half(mut rec: Record, mem: &mut [u8], kind: u8, byte: u8) -> (u8, u8, 
 
 /// "Instructions, by highest set bit (document 002)".
 fn perform_instruction(rec: &mut Record, mem: &mut [u8], byte: u8) -> u8 {
-    let mut time = SHORT_TIME;
     match byte {
         // "00h: nothing." Decision 7: it still takes 40.
         0x00 => {}
@@ -336,71 +335,67 @@ fn perform_instruction(rec: &mut Record, mem: &mut [u8], byte: u8) -> u8 {
         // rest stays".
         0x01 => {
             blank_display(mem);
-            rec.counter = Counter::Display(0);
-            rec.shift = 0;
-            rec.fresh = false;
-            time = LONG_TIME;
+            home(rec);
         }
-        // "Home: counter cell 0, shift 0, register stale."
-        0x02..=0x03 => {
-            rec.counter = Counter::Display(0);
-            rec.shift = 0;
-            rec.fresh = false;
-            time = LONG_TIME;
-        }
+        0x02..=0x03 => home(rec),
         // "04h-07h: I/D, S."
-        0x04..=0x07 => {
-            rec.id = byte & 0x02 != 0;
-            rec.s = byte & 0x01 != 0;
-        }
+        0x04..=0x07 => (rec.id, rec.s) = (byte & 0x02 != 0, byte & 0x01 != 0),
         // "08h-0Fh: D, C, B."
         0x08..=0x0F => {
-            rec.d = byte & 0x04 != 0;
-            rec.c = byte & 0x02 != 0;
-            rec.b = byte & 0x01 != 0;
+            (rec.d, rec.c, rec.b) = (byte & 0x04 != 0, byte & 0x02 != 0, byte & 0x01 != 0)
         }
-        0x10..=0x1F => {
-            let display = byte & 0x08 != 0; // S/C
-            let right = byte & 0x04 != 0; // R/L
-            if display {
-                // "S/C=1: left adds 1 to shift, right takes 1, modulo 80."
-                rec.shift = step(rec.shift, !right, DISPLAY_CELLS);
-            } else {
-                // "S/C=0 moves the counter one left (R/L=0) or right, wrapping
-                // within its memory; in display memory it loads the register,
-                // fresh; in pattern memory the register turns stale."
-                rec.counter = step_counter(rec.counter, right);
-                match rec.counter {
-                    Counter::Display(_) => load_register(rec, mem),
-                    Counter::Pattern(_) => rec.fresh = false,
-                }
-            }
-        }
+        0x10..=0x1F => move_or_shift(rec, mem, byte),
         // "20h-3Fh: DL, N, F. Width follows DL at once."
         0x20..=0x3F => {
             rec.width = if byte & 0x10 != 0 { 8 } else { 4 };
-            rec.n = byte & 0x08 != 0;
-            rec.f = byte & 0x04 != 0;
+            (rec.n, rec.f) = (byte & 0x08 != 0, byte & 0x04 != 0);
         }
         // "40h-7Fh, 80h-FFh: pattern or display address; loads the register,
         // fresh."
-        0x40..=0x7F => {
-            rec.counter = Counter::Pattern(byte & 0x3F);
-            load_register(rec, mem);
-        }
+        0x40..=0x7F => set_counter(rec, mem, Counter::Pattern(byte & 0x3F)),
         0x80..=0xFF => match display_cell(rec.n, byte & 0x7F) {
-            Some(cell) => {
-                rec.counter = Counter::Display(cell);
-                load_register(rec, mem);
-            }
+            Some(cell) => set_counter(rec, mem, Counter::Display(cell)),
             // "display address without a cell: wait counted, half gone, rest as
             // found". Decision 7: no busy time.
             None => return NO_CELL,
         },
     }
-    // "A completed transfer that takes time sets busy to it."
-    rec.busy = time;
+    // "Clear and Home take 1,640, all other instructions ... 40". "A completed
+    // transfer that takes time sets busy to it."
+    let long = (0x01..=0x03).contains(&byte);
+    rec.busy = if long { LONG_TIME } else { SHORT_TIME };
     DONE
+}
+
+/// "Home: counter cell 0, shift 0, register stale."
+fn home(rec: &mut Record) {
+    rec.counter = Counter::Display(0);
+    rec.shift = 0;
+    rec.fresh = false;
+}
+
+fn set_counter(rec: &mut Record, mem: &[u8], counter: Counter) {
+    rec.counter = counter;
+    load_register(rec, mem);
+}
+
+/// 10h to 1Fh: a move of the cursor or of the display.
+fn move_or_shift(rec: &mut Record, mem: &[u8], byte: u8) {
+    let display = byte & 0x08 != 0; // S/C
+    let right = byte & 0x04 != 0; // R/L
+    if display {
+        // "S/C=1: left adds 1 to shift, right takes 1, modulo 80."
+        rec.shift = step(rec.shift, !right, DISPLAY_CELLS);
+        return;
+    }
+    // "S/C=0 moves the counter one left (R/L=0) or right, wrapping within its memory;
+    // in display memory it loads the register, fresh; in pattern memory the register
+    // turns stale."
+    rec.counter = step_counter(rec.counter, right);
+    match rec.counter {
+        Counter::Display(_) => load_register(rec, mem),
+        Counter::Pattern(_) => rec.fresh = false,
+    }
 }
 
 /// "Data write: byte into the counter's cell, register holds the byte, stale;
@@ -617,11 +612,21 @@ pub fn plan(wish: &Wish, marks: &[u8], values: &[u8], out: &mut [u8]) -> (u8, us
     if out.len() < PLAN_BYTES {
         return (TOO_SHORT, 0);
     }
-
     let mut records = Records {
         bytes: Vec::new(),
         pending: 100,
     };
+    plan_opening(&mut records, wish);
+    plan_cells(&mut records, wish, marks, values);
+    plan_ending(&mut records, wish);
+
+    // "At most 468 records; ... those past the last record stay. The count of
+    // records is returned."
+    out[..records.bytes.len()].copy_from_slice(&records.bytes);
+    (DONE, records.bytes.len() / 6)
+}
+
+fn plan_opening(records: &mut Records, wish: &Wish) {
     // "1. Instruction bytes 30h, 30h, 30h, 20h, single transfers, waits 15,000,
     // 4,100, 100, 100."
     records.single(INSTRUCTION_WRITE, 0x30, 15_000);
@@ -638,8 +643,11 @@ pub fn plan(wish: &Wish, marks: &[u8], values: &[u8], out: &mut [u8]) -> (u8, us
     for _ in 0..wish.shift {
         records.instruction(0x18);
     }
-    // "marked display cells rising, then marked pattern cells rising, an address
-    // set first unless the cell before it in the same memory is marked;"
+}
+
+/// "marked display cells rising, then marked pattern cells rising, an address set
+/// first unless the cell before it in the same memory is marked;"
+fn plan_cells(records: &mut Records, wish: &Wish, marks: &[u8], values: &[u8]) {
     for cell in 0..DISPLAY_CELLS {
         let at = place(Counter::Display(cell));
         if marks[at] == 1 {
@@ -658,15 +666,13 @@ pub fn plan(wish: &Wish, marks: &[u8], values: &[u8], out: &mut [u8]) -> (u8, us
             records.data(values[at]);
         }
     }
-    // "then Entry Mode, the cursor's address, Display Control as wished."
+}
+
+/// "then Entry Mode, the cursor's address, Display Control as wished."
+fn plan_ending(records: &mut Records, wish: &Wish) {
     records.instruction(0x04 | bit(wish.id, 1) | bit(wish.s, 0));
     records.instruction(0x80 | display_address(wish.n, wish.cursor));
     records.instruction(0x08 | bit(wish.d, 2) | bit(wish.c, 1) | bit(wish.b, 0));
-
-    // "At most 468 records; ... those past the last record stay. The count of
-    // records is returned."
-    out[..records.bytes.len()].copy_from_slice(&records.bytes);
-    (DONE, records.bytes.len() / 6)
 }
 
 // ---------------------------------------------------------------------------

@@ -7,6 +7,7 @@ use crate::model::{
     Counter, Half, Record, DATA_READ, DATA_WRITE, DISPLAY_CELLS, INSTRUCTION_WRITE, LINE_BYTES,
     LONGEST_BUSY, MEMORY, PATTERN_CELLS, PLAN_BYTES, STATUS_READ,
 };
+use crate::random_lines;
 
 /// A call of any of the six functions.
 pub fn any_call(chance: &mut Chance) -> Case {
@@ -314,66 +315,29 @@ fn plan(chance: &mut Chance) -> Case {
 // Session lines
 // ---------------------------------------------------------------------------
 
-/// Waits of every length, and those at the ends of their lengths.
-fn written_wait(chance: &mut Chance) -> u32 {
-    let power = 10u32.pow(chance.below(10) as u32);
-    let any = chance.bits() as u32 >> chance.below(32);
-    chance.pick(&[0, power - 1, power, u32::MAX, u32::MAX - 1, any, any, any])
-}
-
 fn write_line(chance: &mut Chance) -> Case {
     let kind = kind(chance);
     let byte = byte(chance, kind);
     Case {
         function: Function::WriteLine,
         buffers: vec![output(chance, LINE_BYTES)],
-        numbers: [kind.into(), byte.into(), written_wait(chance)],
+        numbers: [kind.into(), byte.into(), random_lines::wait(chance)],
     }
 }
 
-/// A line as the writer has it; now and then with a read's byte that makes it bad.
-fn any_line(chance: &mut Chance) -> Vec<u8> {
-    let kind = chance.below(4) as u8;
-    let byte = byte(chance, kind);
-    let letter = char::from(b"IDSR"[usize::from(kind)]);
-    let past = chance.pick(&[4_294_967_296, 4_294_967_297, 9_999_999_999, 10_000_000_000]);
-    let wait: u64 = match chance.below(30) {
-        0 => past,
-        _ => written_wait(chance).into(),
-    };
-    format!("{letter}\t{byte:02X}\t{wait}\n").into_bytes()
-}
-
-/// One byte replaced, put in or taken out, or the line cut.
-fn edit(chance: &mut Chance, line: &mut Vec<u8>) {
-    let at = chance.index(line.len());
-    let any = chance.byte();
-    let near = line[at].wrapping_add(chance.pick(&[1, 0xFF, 0x20, 0xE0]));
-    let new = chance.pick(&[any, near, b'0', b'9', b'\t', b'\n', b'\r', b' ', b'a', b'G']);
-    match chance.below(4) {
-        0 => line[at] = new,
-        1 => line.insert(at, new),
-        2 => drop(line.remove(at)),
-        _ => line.truncate(at),
-    }
-}
-
-/// A line, good or damaged by one edit, and perhaps something after it.
+/// A line, good or damaged, and perhaps something after it.
 fn text(chance: &mut Chance) -> Vec<u8> {
-    if chance.percent(2) {
-        let length = chance.index(40);
-        return chance.bytes(length);
-    }
-    let mut text = any_line(chance);
-    if chance.percent(35) {
-        edit(chance, &mut text);
-    }
+    let mut text = match chance.below(50) {
+        0 => Vec::new(),
+        1..=18 => random_lines::damaged_line(chance),
+        _ => random_lines::good_line(chance),
+    };
     match chance.below(4) {
-        0 => text.extend(any_line(chance)),
-        1 => {
+        0 => text.extend(random_lines::good_line(chance)),
+        1 => text.extend({
             let length = chance.index(20);
-            text.extend(chance.bytes(length));
-        }
+            chance.bytes(length)
+        }),
         _ => {}
     }
     text
@@ -397,7 +361,7 @@ pub fn kind_and_byte(chance: &mut Chance, kind: u8, byte: u8) -> [Case; 2] {
         busy: 0,
         ..sound_record(chance)
     };
-    let numbers = [kind.into(), byte.into(), written_wait(chance)];
+    let numbers = [kind.into(), byte.into(), random_lines::wait(chance)];
     let transfer = Case {
         function: Function::Transfer,
         buffers: vec![bytes_of(&record).to_vec(), whole_memory(chance)],

@@ -1,6 +1,6 @@
 //! Deliberately wrong models: a comparison that misses one of them is worth nothing.
 
-use crate::calls::{self, Model, MODEL};
+use crate::calls::{self, Model, Painter, Planner, RecordReader, Resetter, Writer, MODEL};
 use crate::model::{self, Counter, Half, Line, Reader, Record, Step, Wish, FONT};
 
 // ---------------------------------------------------------------------------
@@ -218,6 +218,35 @@ fn pattern_read_stops(
     (answer, read, new)
 }
 
+/// Busy is over one microsecond too late.
+fn busy_one_off(
+    before: Record,
+    memory: &mut [u8],
+    kind: u8,
+    byte: u8,
+    wait: u32,
+) -> (u8, u8, Record) {
+    if before.busy > 0 && before.busy == wait {
+        return model::transfer(before, memory, kind, byte, wait - 1);
+    }
+    model::transfer(before, memory, kind, byte, wait)
+}
+
+/// A kind above 3 is refused, and its wait counted.
+fn bad_kind_counts_wait(
+    before: Record,
+    memory: &mut [u8],
+    kind: u8,
+    byte: u8,
+    wait: u32,
+) -> (u8, u8, Record) {
+    let (answer, read, mut new) = model::transfer(before, memory, kind, byte, wait);
+    if answer == model::WRONG_KIND {
+        new.busy = new.busy.saturating_sub(wait);
+    }
+    (answer, read, new)
+}
+
 // ---------------------------------------------------------------------------
 // Readers of lines
 // ---------------------------------------------------------------------------
@@ -272,38 +301,18 @@ fn reads_no_newline(text: &[u8]) -> (u8, Line) {
     (answer, line)
 }
 
-// ---------------------------------------------------------------------------
-// What no session shows
-// ---------------------------------------------------------------------------
-
-/// Busy is over one microsecond too late.
-fn busy_one_off(
-    before: Record,
-    memory: &mut [u8],
-    kind: u8,
-    byte: u8,
-    wait: u32,
-) -> (u8, u8, Record) {
-    if before.busy > 0 && before.busy == wait {
-        return model::transfer(before, memory, kind, byte, wait - 1);
+/// A reader that takes lower-case hex digits.
+fn reads_lower_case(text: &[u8]) -> (u8, Line) {
+    let mut upper = text.to_vec();
+    for digit in upper.iter_mut().take(4).skip(2) {
+        digit.make_ascii_uppercase();
     }
-    model::transfer(before, memory, kind, byte, wait)
+    model::read_line(&upper)
 }
 
-/// A kind above 3 is refused, and its wait counted.
-fn bad_kind_counts_wait(
-    before: Record,
-    memory: &mut [u8],
-    kind: u8,
-    byte: u8,
-    wait: u32,
-) -> (u8, u8, Record) {
-    let (answer, read, mut new) = model::transfer(before, memory, kind, byte, wait);
-    if answer == model::WRONG_KIND {
-        new.busy = new.busy.saturating_sub(wait);
-    }
-    (answer, read, new)
-}
+// ---------------------------------------------------------------------------
+// Records, resets, pictures, plans and the writer of lines
+// ---------------------------------------------------------------------------
 
 /// Byte 23 of a record, which must be zero, is not looked at.
 fn last_byte_unseen(bytes: &[u8]) -> Option<Record> {
@@ -438,20 +447,11 @@ fn line_runs_over(kind: u8, byte: u8, wait: u32, out: &mut [u8]) -> (u8, usize) 
     (answer, length)
 }
 
-/// A reader that takes lower-case hex digits.
-fn reads_lower_case(text: &[u8]) -> (u8, Line) {
-    let mut upper = text.to_vec();
-    for digit in upper.iter_mut().take(4).skip(2) {
-        digit.make_ascii_uppercase();
-    }
-    model::read_line(&upper)
-}
-
 // ---------------------------------------------------------------------------
 // All of them
 // ---------------------------------------------------------------------------
 
-const WRONG_STEPS: [(&str, Step); 12] = [
+const WRONG_STEPS: [(&str, Step); 13] = [
     ("clear-increments", clear_increments),
     ("clear-keeps-fresh", clear_keeps_fresh),
     ("read-stays", read_stays),
@@ -463,135 +463,77 @@ const WRONG_STEPS: [(&str, Step); 12] = [
     ("crossed-unseen", crossed_unseen),
     ("crossed-read-silent", crossed_read_silent),
     ("pattern-read-stops", pattern_read_stops),
+    ("busy-one-off", busy_one_off),
     ("read-shifts", read_shifts),
 ];
 
-const WRONG_READERS: [(&str, Reader); 3] = [
+const WRONG_READERS: [(&str, Reader); 4] = [
     ("carriage-return", reads_carriage_return),
     ("great-waits", reads_great_waits),
     ("no-newline", reads_no_newline),
+    ("lower-case", reads_lower_case),
 ];
 
+/// No session has a kind above 3.
+const UNSEEN_STEPS: [(&str, Step); 1] = [("bad-kind-counts-wait", bad_kind_counts_wait)];
+
+const WRONG_RECORDS: [(&str, RecordReader); 1] = [("last-byte-unseen", last_byte_unseen)];
+
+const WRONG_RESETS: [(&str, Resetter); 2] = [
+    ("reset-clears-patterns", reset_clears_patterns),
+    ("reset-leaves-on", reset_leaves_on),
+];
+
+const WRONG_PAINTERS: [(&str, Painter); 3] = [
+    ("second-line-drawn", second_line_drawn),
+    ("always-lit", always_lit),
+    ("picture-runs-over", picture_runs_over),
+];
+
+const WRONG_PLANNERS: [(&str, Planner); 4] = [
+    ("second-wait-less", second_wait_less),
+    ("plan-clears", plan_clears),
+    ("first-mark-alone", first_mark_alone),
+    ("short-plan-taken", short_plan_taken),
+];
+
+const WRONG_WRITERS: [(&str, Writer); 2] = [
+    ("digit-lost", digit_lost),
+    ("line-runs-over", line_runs_over),
+];
+
+/// A wrong function in its place, with its name.
+type Named = (&'static str, Model);
+
+fn each<F: Copy>(wrong: &[(&'static str, F)], place: fn(F) -> Model) -> Vec<Named> {
+    let named = wrong
+        .iter()
+        .map(|&(name, function)| (name, place(function)));
+    named.collect()
+}
+
 /// The wrong models that play sessions.
-pub fn of_sessions() -> Vec<(&'static str, Model)> {
-    let steps = WRONG_STEPS
-        .iter()
-        .map(|&(name, transfer)| (name, Model { transfer, ..MODEL }));
-    let readers = WRONG_READERS
-        .iter()
-        .map(|&(name, read_line)| (name, Model { read_line, ..MODEL }));
-    steps.chain(readers).collect()
+pub fn of_sessions() -> Vec<Named> {
+    [
+        each(&WRONG_STEPS, |transfer| Model { transfer, ..MODEL }),
+        each(&WRONG_READERS, |read_line| Model { read_line, ..MODEL }),
+    ]
+    .concat()
 }
 
 /// Those, and the ones that only calls find out.
-pub fn of_calls() -> Vec<(&'static str, Model)> {
-    let mut models = of_sessions();
-    models.extend([
-        (
-            "busy-one-off",
-            Model {
-                transfer: busy_one_off,
-                ..MODEL
-            },
-        ),
-        (
-            "bad-kind-counts-wait",
-            Model {
-                transfer: bad_kind_counts_wait,
-                ..MODEL
-            },
-        ),
-        (
-            "last-byte-unseen",
-            Model {
-                record_of: last_byte_unseen,
-                ..MODEL
-            },
-        ),
-        (
-            "reset-clears-patterns",
-            Model {
-                reset: reset_clears_patterns,
-                ..MODEL
-            },
-        ),
-        (
-            "reset-leaves-on",
-            Model {
-                reset: reset_leaves_on,
-                ..MODEL
-            },
-        ),
-        (
-            "second-line-drawn",
-            Model {
-                picture: second_line_drawn,
-                ..MODEL
-            },
-        ),
-        (
-            "always-lit",
-            Model {
-                picture: always_lit,
-                ..MODEL
-            },
-        ),
-        (
-            "picture-runs-over",
-            Model {
-                picture: picture_runs_over,
-                ..MODEL
-            },
-        ),
-        (
-            "second-wait-less",
-            Model {
-                plan: second_wait_less,
-                ..MODEL
-            },
-        ),
-        (
-            "plan-clears",
-            Model {
-                plan: plan_clears,
-                ..MODEL
-            },
-        ),
-        (
-            "first-mark-alone",
-            Model {
-                plan: first_mark_alone,
-                ..MODEL
-            },
-        ),
-        (
-            "short-plan-taken",
-            Model {
-                plan: short_plan_taken,
-                ..MODEL
-            },
-        ),
-        (
-            "digit-lost",
-            Model {
-                write_line: digit_lost,
-                ..MODEL
-            },
-        ),
-        (
-            "line-runs-over",
-            Model {
-                write_line: line_runs_over,
-                ..MODEL
-            },
-        ),
-        (
-            "lower-case",
-            Model {
-                read_line: reads_lower_case,
-                ..MODEL
-            },
-        ),
-    ]);
-    models
+pub fn of_calls() -> Vec<Named> {
+    [
+        of_sessions(),
+        each(&UNSEEN_STEPS, |transfer| Model { transfer, ..MODEL }),
+        each(&WRONG_RECORDS, |record_of| Model { record_of, ..MODEL }),
+        each(&WRONG_RESETS, |reset| Model { reset, ..MODEL }),
+        each(&WRONG_PAINTERS, |picture| Model { picture, ..MODEL }),
+        each(&WRONG_PLANNERS, |plan| Model { plan, ..MODEL }),
+        each(&WRONG_WRITERS, |write_line| Model {
+            write_line,
+            ..MODEL
+        }),
+    ]
+    .concat()
 }

@@ -1,0 +1,125 @@
+//! Random session lines, good and damaged.
+
+use crate::chance::Chance;
+use crate::model::{DATA_READ, DATA_WRITE, INSTRUCTION_WRITE, STATUS_READ};
+
+pub const KINDS: [u8; 4] = [INSTRUCTION_WRITE, DATA_WRITE, STATUS_READ, DATA_READ];
+
+pub fn letter(kind: u8) -> char {
+    ['I', 'D', 'S', 'R'][usize::from(kind)]
+}
+
+/// "00h for reads".
+pub fn byte_of(kind: u8, byte: u8) -> u8 {
+    match kind {
+        STATUS_READ | DATA_READ => 0x00,
+        _ => byte,
+    }
+}
+
+/// A good line, if the byte and the wait are.
+pub fn line(kind: u8, byte: u8, wait: u64) -> Vec<u8> {
+    format!("{}\t{byte:02X}\t{wait}\n", letter(kind)).into_bytes()
+}
+
+/// Waits of every length, those at the ends of their lengths among them.
+pub fn wait(chance: &mut Chance) -> u32 {
+    let power = 10u32.pow(chance.below(10) as u32);
+    let any = chance.bits() as u32 >> chance.below(32);
+    chance.pick(&[0, power - 1, power, u32::MAX, u32::MAX - 1, any, any, any])
+}
+
+/// A good line of any transfer.
+pub fn good_line(chance: &mut Chance) -> Vec<u8> {
+    let kind = chance.pick(&KINDS);
+    let byte = byte_of(kind, chance.byte());
+    line(kind, byte, wait(chance).into())
+}
+
+/// A line that should be bad, or nearly so.
+pub fn damaged_line(chance: &mut Chance) -> Vec<u8> {
+    match chance.below(8) {
+        0..=1 => bad_wait(chance).into_bytes(),
+        2..=3 => bad_byte(chance).into_bytes(),
+        4..=5 => bad_form(chance).into_bytes(),
+        _ => {
+            let mut line = good_line(chance);
+            edit(chance, &mut line);
+            line
+        }
+    }
+}
+
+/// A wait with a leading zero or a sign, without digits, or around the greatest.
+fn bad_wait(chance: &mut Chance) -> String {
+    let kind = chance.pick(&KINDS);
+    let start = format!("{}\t{:02X}\t", letter(kind), byte_of(kind, chance.byte()));
+    let wait = wait(chance);
+    match chance.below(8) {
+        0 => format!("{start}0{wait}\n"),
+        1 => format!("{start}00\n"),
+        2 => format!("{start}\n"),
+        3 => format!("{start}{}{wait}\n", chance.pick(&['-', '+', ' '])),
+        4 => format!("{start}{}\n", 4_294_967_296 + chance.below(3)),
+        5 => format!("{start}{}\n", 4_294_967_295 - chance.below(3)),
+        6 => format!("{start}{}{wait}\n", chance.bits()),
+        _ => format!(
+            "{start}{}\n",
+            chance.pick(&[9_999_999_999u64, 10_000_000_000])
+        ),
+    }
+}
+
+/// One digit, three digits or a lower-case one; a read with a byte.
+fn bad_byte(chance: &mut Chance) -> String {
+    let kind = chance.pick(&KINDS);
+    let (letter, read) = (letter(kind), chance.pick(&['S', 'R']));
+    let (byte, wait) = (chance.byte(), wait(chance));
+    match chance.below(5) {
+        0 => format!("{letter}\t{:02x}\t{wait}\n", byte | 0x0A),
+        1 => format!("{letter}\t{:X}\t{wait}\n", byte & 0x0F),
+        2 => format!("{letter}\t{:03X}\t{wait}\n", byte_of(kind, byte)),
+        3 => format!("{read}\t{:02X}\t{wait}\n", byte | 0x01),
+        _ => format!("{read}\t{:02X}\t{wait}\n", byte | 0x10),
+    }
+}
+
+/// Tabs, newline or letter missing, doubled or replaced.
+fn bad_form(chance: &mut Chance) -> String {
+    let kind = chance.pick(&KINDS);
+    let letter = letter(kind);
+    let (byte, wait) = (byte_of(kind, chance.byte()), wait(chance));
+    match chance.below(12) {
+        0 => format!("{letter}{byte:02X}\t{wait}\n"),
+        1 => format!("{letter}\t{byte:02X}{wait}\n"),
+        2 => format!("{letter} {byte:02X} {wait}\n"),
+        3 => format!("{letter}\t{byte:02X}\t{wait}\r\n"),
+        4 => format!("{letter}\t{byte:02X}\t{wait} \n"),
+        5 => format!("{letter}\t{byte:02X}\t{wait}\t\n"),
+        6 => format!(" {letter}\t{byte:02X}\t{wait}\n"),
+        7 => format!("{}\t{byte:02X}\t{wait}\n", letter.to_ascii_lowercase()),
+        8 => format!(
+            "{}\t{byte:02X}\t{wait}\n",
+            chance.pick(&['X', 'Z', 'T', 'C'])
+        ),
+        9 => "\n".to_string(),
+        10 => format!("{letter}\t{byte:02X}\t\t{wait}\n"),
+        // Without its newline, so that what follows runs into it.
+        _ => format!("{letter}\t{byte:02X}\t{wait}"),
+    }
+}
+
+/// One byte replaced, put in or taken out, or the line cut.
+fn edit(chance: &mut Chance, line: &mut Vec<u8>) {
+    let at = chance.index(line.len());
+    let any = chance.byte();
+    let near = line[at].wrapping_add(chance.pick(&[1, 0xFF, 0x20, 0xE0]));
+    let new = chance.pick(b"\t\n\r 019:;/@AGFIDSRa\0\xFF");
+    let new = chance.pick(&[any, near, new, new]);
+    match chance.below(4) {
+        0 => line[at] = new,
+        1 => line.insert(at, new),
+        2 => drop(line.remove(at)),
+        _ => line.truncate(at),
+    }
+}

@@ -1,0 +1,311 @@
+//! Random session texts.
+
+use crate::chance::Chance;
+use crate::model::{DATA_READ, DATA_WRITE, INSTRUCTION_WRITE, STATUS_READ};
+use crate::random_lines::{byte_of, damaged_line, line, KINDS};
+
+const WAITS: [u64; 12] = [
+    0,
+    1,
+    39,
+    40,
+    41,
+    100,
+    1_639,
+    1_640,
+    1_641,
+    10_000,
+    15_000,
+    4_294_967_295,
+];
+
+/// Addresses at the edges of the lines, with and without a cell.
+const ADDRESSES: [u8; 16] = [
+    0x00, 0x01, 0x26, 0x27, 0x28, 0x3F, 0x40, 0x41, 0x4E, 0x4F, 0x50, 0x66, 0x67, 0x68, 0x7F, 0x20,
+];
+
+/// Text number k of a seed.
+pub fn random_text(seed: u64, number: u64) -> Vec<u8> {
+    let mut chance = Chance::new(seed, number);
+    match chance.below(100) {
+        0..=1 => noise(&mut chance),
+        2 => large_text(&mut chance),
+        _ => text_of_lines(&mut chance),
+    }
+}
+
+/// Random bytes alone, or random ones of those that lines are made of.
+fn noise(chance: &mut Chance) -> Vec<u8> {
+    let length = chance.index(300);
+    if chance.percent(50) {
+        return chance.bytes(length);
+    }
+    (0..length)
+        .map(|_| chance.pick(b"IDSR\t\n00123489AF"))
+        .collect()
+}
+
+/// Good lines close to, at, or over 65,536 bytes.
+fn large_text(chance: &mut Chance) -> Vec<u8> {
+    let length = match chance.below(8) {
+        0 => 65_535,
+        1 | 2 => 65_536,
+        3 => 65_537,
+        4 => chance.between(65_400, 65_534),
+        5 => chance.between(65_538, 65_600),
+        6 => chance.between(65_536, 70_000),
+        _ => chance.between(70_000, 300_000),
+    } as usize;
+    let mut text = Text::new(chance);
+    text.opening();
+    text.fill_to(length);
+    text.bytes
+}
+
+/// From 0 to some 400 lines, short texts more often than long ones. Something bad stands
+/// in one text of three, more often towards its end.
+fn text_of_lines(chance: &mut Chance) -> Vec<u8> {
+    let most = chance.pick(&[4, 20, 60, 150, 400]);
+    let lines = chance.between(0, most);
+    let bad_after = chance.between(0, lines).max(chance.between(0, lines)) as usize;
+    let mut bad = chance.percent(33);
+    let mut text = Text::new(chance);
+    if lines > 0 {
+        text.opening();
+    }
+    while text.lines < lines as usize {
+        if bad && text.lines >= bad_after {
+            text.damaged();
+            bad = false;
+        }
+        text.phrase();
+    }
+    if bad {
+        text.damaged();
+    }
+    let mut bytes = text.bytes;
+    // Now and then the last newline, or a little more, is cut off.
+    if chance.percent(6) {
+        let cut = chance.pick(&[1, 1, 1, 2, 3, 5]);
+        bytes.truncate(bytes.len().saturating_sub(cut));
+    }
+    bytes
+}
+
+/// A text in the making. A patient one mostly waits long enough; one of four wires
+/// sends its bytes in halves.
+struct Text<'a> {
+    chance: &'a mut Chance,
+    bytes: Vec<u8>,
+    lines: usize,
+    patient: bool,
+    four: bool,
+}
+
+impl Text<'_> {
+    fn new(chance: &mut Chance) -> Text<'_> {
+        let (patient, four) = (chance.percent(70), chance.percent(50));
+        Text {
+            chance,
+            bytes: Vec::new(),
+            lines: 0,
+            patient,
+            four,
+        }
+    }
+
+    fn wait(&mut self) -> u64 {
+        if self.patient && self.chance.percent(90) {
+            return self.chance.pick(&[40, 40, 41, 100, 1_640, 1_641, 10_000]);
+        }
+        match self.chance.below(10) {
+            0..=7 => self.chance.pick(&WAITS),
+            8 => self.chance.below(12_000),
+            _ => self.chance.below(4_294_967_296),
+        }
+    }
+
+    fn line(&mut self, kind: u8, byte: u8, wait: u64) {
+        self.bytes.extend(line(kind, byte_of(kind, byte), wait));
+        self.lines += 1;
+    }
+
+    fn damaged(&mut self) {
+        self.bytes.extend(damaged_line(self.chance));
+        self.lines += 1;
+    }
+
+    /// A transfer of a whole byte: one line, or two halves. Now and then the halves are
+    /// crossed, or the second is missing.
+    fn send(&mut self, kind: u8, byte: u8) {
+        let wait = self.wait();
+        if !self.four {
+            return self.line(kind, byte, wait);
+        }
+        // The low four wires count for nothing.
+        let noise = match self.chance.percent(10) {
+            true => self.chance.byte() & 0x0F,
+            false => 0x00,
+        };
+        self.line(kind, (byte & 0xF0) | noise, wait);
+        let later = self.wait();
+        let wait = self.chance.pick(&[1, 1, later]);
+        match self.chance.below(100) {
+            0..=1 => {}
+            2..=7 => {
+                let (other, any) = (self.chance.pick(&KINDS), self.chance.byte());
+                self.line(other, any, wait);
+            }
+            _ => self.line(kind, (byte << 4) | noise, wait),
+        }
+    }
+
+    /// An instruction with these bits set, and any of those.
+    fn instruction(&mut self, set: u8, any: u8) {
+        let byte = set | (self.chance.byte() & any);
+        self.send(INSTRUCTION_WRITE, byte);
+    }
+
+    /// A few transfers that belong together.
+    fn phrase(&mut self) {
+        match self.chance.below(20) {
+            0..=2 => self.write_some(),
+            3..=5 => self.read_some(),
+            6 => self.home(),
+            // Entry Mode, Display Control.
+            7..=8 => self.instruction(0x04, 0x03),
+            9 => self.instruction(0x08, 0x07),
+            10..=11 => self.step(),
+            12 => self.function_set(),
+            13 => self.other_width(),
+            14 => self.send(INSTRUCTION_WRITE, 0x00),
+            15 => self.send(STATUS_READ, 0x00),
+            16 => {
+                let byte = self.chance.byte();
+                self.send(DATA_WRITE, byte);
+            }
+            17 => self.any_instruction(),
+            _ => self.anything(),
+        }
+    }
+
+    fn address_set(&mut self) {
+        match self.chance.below(10) {
+            0 => self.instruction(0x40, 0x3F),
+            1..=2 => {
+                let address = self.chance.pick(&[0x00, 0x01, 0x07, 0x3E, 0x3F]);
+                self.send(INSTRUCTION_WRITE, 0x40 | address);
+            }
+            3..=6 => {
+                let address = self.chance.pick(&ADDRESSES);
+                self.send(INSTRUCTION_WRITE, 0x80 | address);
+            }
+            _ => self.instruction(0x80, 0x7F),
+        }
+    }
+
+    fn write_some(&mut self) {
+        self.address_set();
+        for _ in 0..self.chance.between(0, 4) {
+            let byte = self.chance.byte();
+            self.send(DATA_WRITE, byte);
+        }
+        self.send(STATUS_READ, 0x00);
+    }
+
+    fn read_some(&mut self) {
+        if self.chance.percent(60) {
+            self.address_set();
+        }
+        for _ in 0..self.chance.between(1, 4) {
+            self.send(DATA_READ, 0x00);
+        }
+        self.send(STATUS_READ, 0x00);
+    }
+
+    /// Clear or Home, and what the counter and the register are afterwards.
+    fn home(&mut self) {
+        let byte = self.chance.pick(&[0x01, 0x02, 0x03]);
+        self.send(INSTRUCTION_WRITE, byte);
+        let kind = self.chance.pick(&KINDS);
+        self.send(kind, byte);
+    }
+
+    /// A move of the cursor or the display.
+    fn step(&mut self) {
+        self.instruction(0x10, 0x0F);
+        let kind = self.chance.pick(&[STATUS_READ, DATA_READ]);
+        self.send(kind, 0x00);
+    }
+
+    /// Function Set that keeps the width as it is thought to be.
+    fn function_set(&mut self) {
+        self.instruction(if self.four { 0x20 } else { 0x30 }, 0x0F);
+        self.send(STATUS_READ, 0x00);
+    }
+
+    fn other_width(&mut self) {
+        if self.chance.percent(30) {
+            self.instruction(if self.four { 0x30 } else { 0x20 }, 0x0F);
+            self.four = !self.four;
+        }
+        self.send(STATUS_READ, 0x00);
+    }
+
+    /// Any instruction, its class chosen first.
+    fn any_instruction(&mut self) {
+        let class = 1u8 << self.chance.below(8);
+        self.instruction(class, class - 1);
+    }
+
+    fn anything(&mut self) {
+        let (kind, byte) = (self.chance.pick(&KINDS), self.chance.byte());
+        let wait = self.wait();
+        self.line(kind, byte, wait);
+    }
+
+    /// The first lines: mostly out of the busy time of reset, and to the width.
+    fn opening(&mut self) {
+        if self.chance.percent(10) {
+            return;
+        }
+        let wait = self.chance.pick(&[9_999, 10_000, 10_001, 15_000]);
+        let byte = if self.four { 0x20 } else { 0x30 } | (self.chance.byte() & 0x0C);
+        self.line(INSTRUCTION_WRITE, byte, wait);
+        if wait == 9_999 {
+            self.line(INSTRUCTION_WRITE, byte, 1);
+        }
+    }
+
+    /// A good line of exactly so many bytes, 7 to 16.
+    fn line_of(&mut self, length: usize) {
+        let digits = length as u32 - 6;
+        let low = match digits {
+            1 => 0,
+            _ => 10u64.pow(digits - 1),
+        };
+        let high = (10u64.pow(digits) - 1).min(4_294_967_295);
+        let (kind, byte) = (self.chance.pick(&KINDS), self.chance.byte());
+        let wait = self.chance.between(low, high);
+        self.line(kind, byte, wait);
+    }
+
+    /// Good lines up to exactly so many bytes.
+    fn fill_to(&mut self, length: usize) {
+        while self.bytes.len() + 200 < length {
+            self.phrase();
+        }
+        loop {
+            let left = length.saturating_sub(self.bytes.len());
+            match left {
+                0..=6 => return,
+                7..=16 => self.line_of(left),
+                17..=22 => self.line_of(7),
+                _ => {
+                    let next = self.chance.between(7, 16) as usize;
+                    self.line_of(next);
+                }
+            }
+        }
+    }
+}
