@@ -338,7 +338,7 @@ fn reset_leaves_on(record: Record, memory: &mut [u8]) -> (u8, Record) {
     (answer, Record { d: true, ..new })
 }
 
-/// With N=0 line 2 is drawn too, as the second forty cells.
+/// With N=0 a panel of two lines is drawn as with N=1.
 fn second_line_drawn(
     record: &Record,
     memory: &[u8],

@@ -25,7 +25,7 @@ use yaropesk_model::model::{
 };
 use yaropesk_model::random_calls::{sound_record, whole_memory};
 
-const ROUNDS: usize = 25;
+const ROUNDS: usize = 60;
 const SEED: u64 = 44_780;
 
 // ---------------------------------------------------------------------------
