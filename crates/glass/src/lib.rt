@@ -4,3 +4,4 @@ mod font;
 mod geometry;
 
 pub use draw::picture;
+pub use geometry::rows_of;

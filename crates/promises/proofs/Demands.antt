@@ -13,6 +13,7 @@ use Rattle.controller.proofs.Theorems.Refusals.{transfer-refusals, reset-refusa
 use Rattle.controller.proofs.Theorems.Sound.{transfer-keeps-sound, reset-makes-sound, effects-fit}
 use Rattle.controller.specs.Bus.{badTransfer}
 use Rattle.controller.specs.Decision.{numberOf}
+use Rattle.drawing.proofs.Theorems.{draw-answers, draw-refusals}
 use Rattle.glass.proofs.Theorems.{each-byte, later-stay, picture-answers, picture-refusals}
 use Rattle.lines.proofs.Theorems.One.{one-reading, writer-answers}
 use Rattle.lines.proofs.Theorems.Read.{reader-answers, read-writes-back}
@@ -38,6 +39,7 @@ each-answer =
       reader = reader-answers;
       writer = writer-answers;
       play = play-answers;
+      draw = draw-answers;
     }
 
 -- a call that writes no text where its number is not 0
@@ -75,6 +77,7 @@ demand-1 =
       writer = λ kind byte wait out. leaves _ out (writer-nothing kind byte wait out);
       texts = λ size text out. leaves _ out (wanting-nothing size text out);
       play = λ text out. leaves _ out (play-nothing text out);
+      draw = draw-refusals;
     }
 
 pub demand-2 : Demand2

@@ -1,6 +1,7 @@
 -- "Each is given exactly where its row applies, in order": for each call and each number.
 -- Assumes nothing.
 use Rattle.controller.specs.Theorems.{TransferAnswers, ResetAnswers}
+use Rattle.drawing.specs.Theorems.{DrawAnswers}
 use Rattle.glass.specs.Theorems.{PictureAnswers}
 use Rattle.lines.specs.Theorems.{ReaderAnswers, WriterAnswers}
 use Rattle.planner.specs.Theorems.{PlanAnswers}
@@ -14,3 +15,4 @@ pub record EachAnswer : Type 0 where
   pub reader : ReaderAnswers
   pub writer : WriterAnswers
   pub play : PlayAnswers
+  pub draw : DrawAnswers

@@ -11,6 +11,7 @@ use Rattle.controller.specs.Record.{sound, waited}
 use Rattle.controller.specs.declared.«record».Record.{Record}
 use Rattle.controller.specs.Decision.{numberOf}
 use Rattle.controller.specs.Theorems.{TransferKeepsSound, ResetMakesSound, EffectsFit, TransferRefusals, ResetRefusals}
+use Rattle.drawing.specs.Theorems.{DrawRefusals}
 use Rattle.glass.specs.Theorems.{EachByte, LaterStay, PictureRefusals}
 use Rattle.lines.specs.Theorems.{WrittenReadsBack, ReadWritesBack, OneReading}
 use Rattle.lines.specs.Writing.{Writing, Meets, wanting, lineWriting}
@@ -41,6 +42,7 @@ pub record Demand1 : Type 0 where
   pub writer : (kind byte wait : ℕ) (out : List ℕ) → LeavesBuffer (lineWriting kind byte wait out) out
   pub texts : (size : ℕ) (text out : List ℕ) → LeavesBuffer (wanting size text out) out
   pub play : (text out : List ℕ) → LeavesBuffer (playing text out) out
+  pub draw : DrawRefusals
 
 -- A transfer is taken wherever nothing refuses it: with a sound record, a whole memory, a kind and byte in order, and no need to
 -- wait, it comes to what the rules of halves and instructions say.

@@ -15,6 +15,10 @@ use Rattle.controller.specs.declared.decision.Answer.{Answer}
 use Rattle.controller.specs.declared.decision.Outcome.{Outcome}
 use Rattle.controller.specs.declared.loan.Told.{Told}
 use Rattle.controller.specs.declared.«record».Record.{Record}
+use Rattle.controller.specs.declared.«record».Function.{Function}
+use Rattle.drawing.specs.declared.drawing.Form.{Form}
+use Rattle.drawing.specs.Drawing.{Drawn}
+use Rattle.glass.specs.Geometry.{height}
 use Rattle.glass.specs.Picture.{Pictured}
 use Rattle.interface.specs.ControllerCalls.{resetCall, transferCall}
 use Rattle.interface.specs.ControllerCalls
@@ -32,6 +36,8 @@ use Rattle.planner.specs.Bus.{replyTo}
 use Rattle.planner.specs.declared.bus.Planned.{Planned}
 use Rattle.planner.specs.declared.wish.Wish.{Wish}
 use Rattle.player.specs.Report.{playing}
+use Rattle.player.specs.Standing.{standing}
+use Rattle.player.specs.declared.through.Standing.{Standing}
 
 -- One result fits, and no second.
 abbrev pub ExactlyOne : {A : Type 0} → (A → Type 0) → Type 0
@@ -52,6 +58,7 @@ pub record EachDetermined : Type 0 where
   pub long-time : ExactlyOne (λ (x : ℕ). x ≡ longTime)
   pub picture : (rec : Record) (mem : List ℕ) (columns lines : ℕ) (lit : Bool) (out : List ℕ)
       → ExactlyOne (λ (x : Answer × List ℕ). Pictured rec mem columns lines lit out (x .0) (x .1))
+  pub rows-of : (function : Function) → ExactlyOne (λ (x : ℕ). x ≡ height function)
   pub plan : (wish : Wish) (marks values out : List ℕ)
       → ExactlyOne (λ (x : Planned × List ℕ). Rattle.planner.specs.Bus.Meets (replyTo wish marks values out) out (x .0) (x .1))
   pub read-line : (text : List ℕ) → ExactlyOne (λ (x : Line). x ≡ lineOf text)
@@ -61,6 +68,9 @@ pub record EachDetermined : Type 0 where
       → ExactlyOne (λ (x : Written × List ℕ). Rattle.lines.specs.Writing.Meets (wanting rowSize (row number answer byte busy) out) out (x .0) (x .1))
   pub write-header : (out : List ℕ) → ExactlyOne (λ (x : Written × List ℕ). Rattle.lines.specs.Writing.Meets (wanting 20 header out) out (x .0) (x .1))
   pub play : (text out : List ℕ) → ExactlyOne (λ (x : Written × List ℕ). Rattle.lines.specs.Writing.Meets (playing text out) out (x .0) (x .1))
+  pub play-through : (text : List ℕ) → ExactlyOne (λ (x : Standing). x ≡ standing text)
+  pub draw : (form : Form) (rec : Record) (mem : List ℕ) (columns lines : ℕ) (lit : Bool) (out : List ℕ)
+      → ExactlyOne (λ (x : Written × List ℕ). Drawn form rec mem columns lines lit out (x .0) (x .1))
   pub yaropesk-reset : (bytes mem : List ℕ)
       → ExactlyOne (λ (x : ℕ × List ℕ × List ℕ). Rattle.interface.specs.ControllerCalls.Meets (resetCall bytes mem) (x .0) (x .1) (x .2))
   pub yaropesk-transfer : (bytes mem : List ℕ) (kind byte wait : ℕ)

@@ -1,0 +1,4 @@
+pub mod Grid
+pub mod Text
+pub mod Drawing
+pub mod Answers

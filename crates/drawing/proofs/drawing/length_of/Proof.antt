@@ -1,0 +1,56 @@
+-- `drawing::drawing::length_of` meets its contract: each return follows from the tests and the calls before it.
+-- Assumes nothing.
+use Rattle.drawing.specs.Drawing.{lengthOf}
+use native.Mathlib.Omega.{arith}
+use Rattle.drawing.proofs.Laws.Drawing.{frame-most}
+use borrow.Author.Needs.{needs}
+use Rattle.drawing.proofs.drawing.length_of.Statement.{statement}
+use Rattle.drawing.proofs.drawing.length_of.Tie as tie
+
+enum-told : tie.Need-enum-told
+enum-told c = search needs
+
+frame-length-requires : tie.Need-frame-length-requires
+frame-length-requires c κs = search needs
+
+add-result : tie.Need-add-result
+add-result c = omega (arith, c .frame-length .ensures, frame-most (c .before .before .before .args .size) (c .before .before .before .pre))
+
+enum-told-2 : tie.Need-enum-told-2
+enum-told-2 c = search needs
+
+bitmap-length-requires : tie.Need-bitmap-length-requires
+bitmap-length-requires c κs = search needs
+
+enum-told-3 : tie.Need-enum-told-3
+enum-told-3 c = search needs
+
+add-result-2 : tie.Need-add-result-2
+add-result-2 c = search needs
+
+returns : tie.Need-returns
+unfolding lengthOf
+returns c = simp (c .frame-length .ensures, c .before .enum-told .given .1)
+
+returns-2 : tie.Need-returns-2
+unfolding lengthOf
+returns-2 c = simp (c .bitmap-length .ensures, c .before .enum-told2 .given .1)
+
+returns-3 : tie.Need-returns-3
+unfolding lengthOf
+returns-3 c = simp (c .enum-told3 .given .1)
+
+pub length-of-spec : {M : Type 1} → statement M
+length-of-spec =
+    tie.close
+    (tie.spec
+    enum-told
+    frame-length-requires
+    add-result
+    enum-told-2
+    bitmap-length-requires
+    enum-told-3
+    add-result-2
+    returns
+    returns-2
+    returns-3)

@@ -1,0 +1,47 @@
+-- `drawing::listing::listing_at` meets its contract: each return follows from the tests and the calls before it.
+-- Assumes nothing.
+use Rattle.drawing.specs.Listing.{listingAt}
+use borrow.Author.Tests.{lt-ltb, le-ltb, eq-eqb, ne-eqb}
+use borrow.Author.Needs.{needs}
+use Rattle.drawing.proofs.listing.listing_at.Statement.{statement}
+use Rattle.drawing.proofs.listing.listing_at.Tie as tie
+
+returns : tie.Need-returns
+unfolding listingAt
+returns c = simp (eq-eqb _ _ (c .if1 .taken))
+
+label-for-requires : tie.Need-label-for-requires
+label-for-requires c κs = search needs
+
+array-read-result : tie.Need-array-read-result
+array-read-result c = search needs
+
+returns-2 : tie.Need-returns-2
+unfolding listingAt
+returns-2 c = simp (c .label-for .ensures, lt-ltb _ _ (c .before .if2 .taken), ne-eqb _ _ (c .before .before .if1 .left))
+
+mul-cell-at : tie.Need-mul-cell-at
+mul-cell-at c = search needs
+
+add-cell-at : tie.Need-add-cell-at
+add-cell-at c = search needs
+
+cell-at-requires : tie.Need-cell-at-requires
+cell-at-requires c κs = search needs
+
+returns-3 : tie.Need-returns-3
+unfolding listingAt
+returns-3 c = simp (c .cell-at .ensures, le-ltb _ _ (c .before .if2 .left), ne-eqb _ _ (c .before .before .if1 .left))
+
+pub listing-at-spec : {M : Type 1} → statement M
+listing-at-spec =
+    tie.close
+    (tie.spec
+    returns
+    label-for-requires
+    array-read-result
+    returns-2
+    mul-cell-at
+    add-cell-at
+    cell-at-requires
+    returns-3)

@@ -1,0 +1,23 @@
+-- The dots as a portable bitmap (the format P4): each place of the grid is eight pixels wide and high, the last of them empty, so
+-- that a byte of the bitmap is one place and the dots stand apart.
+-- Assumes nothing.
+use mathlib.Core.Bool.{cond}
+use mathlib.Core.List.{List, [], _∷_, _++_}
+use Prim.Native.Nat.{ℕ, _+_, _*_, _/_, _%_}
+use lib.Dec.{eqb}
+use Rattle.lines.specs.Digits.{newline}
+use Rattle.drawing.specs.declared.grid.Size.{Size}
+use Rattle.drawing.specs.Grid.{lastX, lastY, isLit}
+use Rattle.drawing.specs.Numbers.{fourWide}
+
+-- `P4`, the width and the height in pixels.
+unfoldable pub headFor : ℕ → ℕ → List ℕ
+headFor width height = 0x50 ∷ 0x34 ∷ newline ∷ (fourWide width ++ (0x20 ∷ (fourWide height ++ (newline ∷ []))))
+
+-- The head of a panel's bitmap.
+unfoldable pub bitmapHead : Size → List ℕ
+bitmapHead size = headFor ((lastX size + 1) * 8) ((lastY size + 1) * 8)
+
+-- Eight pixels: the place in this column of the grid, at this row of pixels.
+unfoldable pub pixelsAt : List ℕ → Size → ℕ → ℕ → ℕ
+pixelsAt dots size x y = cond (eqb (y % 8) 7) 0 (cond (isLit dots size x (y / 8)) 0b11111110 0)

@@ -1,0 +1,23 @@
+-- Numbers in fields of a fixed width, with blanks before them.
+-- Assumes nothing.
+use mathlib.Core.Bool.{cond}
+use mathlib.Core.List.{List, [], _∷_}
+use Prim.Native.Nat.{ℕ, _/_, _%_}
+use lib.Dec.{ltb}
+use Rattle.lines.specs.Digits.{digit}
+
+-- The digit of a number at this power of ten; a blank where the number is smaller.
+unfoldable pub padded : ℕ → ℕ → ℕ
+padded number power = cond (ltb number power) 0x20 (digit (number / power % 10))
+
+-- A number in two places.
+unfoldable pub twoWide : ℕ → List ℕ
+twoWide number = padded number 10 ∷ digit (number % 10) ∷ []
+
+-- A number in four places.
+unfoldable pub fourWide : ℕ → List ℕ
+fourWide number = padded number 1000 ∷ padded number 100 ∷ padded number 10 ∷ digit (number % 10) ∷ []
+
+-- A number in five places.
+unfoldable pub fiveWide : ℕ → List ℕ
+fiveWide number = padded number 10000 ∷ fourWide number

@@ -1,0 +1,56 @@
+-- One line with the state that a repairer asks for, in fields of fixed places.
+-- Assumes nothing.
+use mathlib.Core.Bool.{Bool, cond}
+use mathlib.Core.List.{List, [], _∷_, _++_}
+use Prim.Native.Nat.{ℕ, _/_, _%_}
+use Rattle.controller.specs.declared.cells.Counter.{Counter}
+use Rattle.controller.specs.declared.cells.Counter.the-variants.{Display, Pattern}
+use Rattle.controller.specs.declared.«record».Half.{Half}
+use Rattle.controller.specs.declared.«record».Half.the-variants.{Empty, InstructionWrite, DataWrite, StatusRead, DataRead}
+use Rattle.controller.specs.declared.«record».Record.{Record}
+use Rattle.lines.specs.Digits.{digit, newline}
+use Rattle.drawing.specs.Numbers.{twoWide, fiveWide}
+
+-- The lines that N drives: `2` or `1`.
+unfoldable pub linesShown : Bool → ℕ
+linesShown n = cond n 0x32 0x31
+
+-- The display: `on` or `off`.
+unfoldable pub onOff : Bool → List ℕ
+onOff d = cond d (0x6F ∷ 0x6E ∷ 0x20 ∷ []) (0x6F ∷ 0x66 ∷ 0x66 ∷ [])
+
+-- The counter's memory: `display` or `pattern`.
+unfoldable pub memoryShown : Counter → List ℕ
+memoryShown (Display cell) = 0x64 ∷ 0x69 ∷ 0x73 ∷ 0x70 ∷ 0x6C ∷ 0x61 ∷ 0x79 ∷ []
+memoryShown (Pattern cell) = 0x70 ∷ 0x61 ∷ 0x74 ∷ 0x74 ∷ 0x65 ∷ 0x72 ∷ 0x6E ∷ []
+
+-- The counter's cell.
+unfoldable pub cellOf : Counter → ℕ
+cellOf (Display cell) = cell
+cellOf (Pattern cell) = cell
+
+-- A write's half: the letter of its kind, and its high four bits as they came over the bus, with 0h below.
+unfoldable pub writeShown : ℕ → ℕ → List ℕ
+writeShown letter high = letter ∷ 0x20 ∷ digit (high % 16) ∷ 0x30 ∷ []
+
+-- A read's half: the letter of its kind, and its whole byte.
+unfoldable pub readShown : ℕ → ℕ → List ℕ
+readShown letter byte = letter ∷ 0x20 ∷ digit (byte / 16) ∷ digit (byte % 16) ∷ []
+
+-- The half that waits: `none`, or the letter that session lines have for its kind, and what it holds.
+unfoldable pub halfShown : Half → List ℕ
+halfShown Empty = 0x6E ∷ 0x6F ∷ 0x6E ∷ 0x65 ∷ []
+halfShown (InstructionWrite high) = writeShown 0x49 high
+halfShown (DataWrite high) = writeShown 0x44 high
+halfShown (StatusRead byte) = readShown 0x53 byte
+halfShown (DataRead byte) = readShown 0x52 byte
+
+-- The whole line: lines, display, counter, shift, busy, half.
+unfoldable pub stateLine : Record → List ℕ
+stateLine rec =
+    0x6C ∷ 0x69 ∷ 0x6E ∷ 0x65 ∷ 0x73 ∷ 0x20 ∷ linesShown (rec .function .n)
+    ∷ 0x20 ∷ 0x20 ∷ 0x64 ∷ 0x69 ∷ 0x73 ∷ 0x70 ∷ 0x6C ∷ 0x61 ∷ 0x79 ∷ 0x20 ∷ (onOff (rec .control .d)
+    ++ (0x20 ∷ 0x20 ∷ 0x63 ∷ 0x6F ∷ 0x75 ∷ 0x6E ∷ 0x74 ∷ 0x65 ∷ 0x72 ∷ 0x20 ∷ (memoryShown (rec .counter) ++ (0x20 ∷ (twoWide (cellOf (rec .counter))
+    ++ (0x20 ∷ 0x20 ∷ 0x73 ∷ 0x68 ∷ 0x69 ∷ 0x66 ∷ 0x74 ∷ 0x20 ∷ (twoWide (rec .shift)
+    ++ (0x20 ∷ 0x20 ∷ 0x62 ∷ 0x75 ∷ 0x73 ∷ 0x79 ∷ 0x20 ∷ (fiveWide (rec .busy)
+    ++ (0x20 ∷ 0x20 ∷ 0x68 ∷ 0x61 ∷ 0x6C ∷ 0x66 ∷ 0x20 ∷ (halfShown (rec .half) ++ (newline ∷ []))))))))))))

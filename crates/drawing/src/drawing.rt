@@ -1,0 +1,215 @@
+// The three forms of a drawing, byte by byte, and the public call with its refusals.
+ghost use mathlib.Core.Bool.{true};
+ghost use mathlib.Core.Path.{_≡_};
+ghost use Prim.Native.Nat.{_≤_, _<_};
+ghost use lib.Dec.{eqb};
+ghost use lib.ListN.{length};
+ghost use Rattle.controller.specs.Decision.{numberOf};
+ghost use Rattle.controller.specs.Record.{sound};
+ghost use Rattle.glass.specs.Picture.{painted};
+ghost use Rattle.drawing.specs.Drawing.{Drawn, bitmapByte, bitmapLength, Taken, byteAt, cellsByte, frameLength, frameWidth, headByte, lengthOf, stateByte, textByte};
+ghost use Rattle.drawing.specs.Grid.{Small};
+use crate::bitmap::bitmap_head;
+use crate::bitmap::pixels_at;
+use crate::frame::frame_at;
+use crate::grid::Size;
+use crate::grid::byte_in;
+use crate::grid::last_x;
+use crate::grid::last_y;
+use crate::listing::listing_at;
+use crate::state::state_line;
+use controller::Answer;
+use controller::Record;
+use controller::number;
+use glass::picture;
+use glass::rows_of;
+use lines::Written;
+
+// How a panel is drawn: its dots as text in a frame, or as a bitmap, or its cells listed.
+pub enum Form {
+    Text,
+    Bitmap,
+    Cells,
+}
+
+// A line of the frame: the grid's columns, one more for its edge, and the end of the line.
+fn frame_width(size: Size) -> usize
+    requires { ⌜ Small size ⌝ }
+    ensures { λ r. ⌜ r ≡ frameWidth size ⌝ }
+{
+    last_x(size) + 2
+}
+
+fn frame_length(size: Size) -> usize
+    requires { ⌜ Small size ⌝ }
+    ensures { λ r. ⌜ r ≡ frameLength size ⌝ }
+{
+    frame_width(size) * (last_y(size) + 1)
+}
+
+fn bitmap_length(size: Size) -> usize
+    requires { ⌜ Small size ⌝ }
+    ensures { λ r. ⌜ r ≡ bitmapLength size ⌝ }
+{
+    13 + (last_x(size) + 1) * ((last_y(size) + 1) * 8)
+}
+
+fn length_of(form: Form, size: Size) -> usize
+    requires { ⌜ Small size ⌝ }
+    ensures { λ r. ⌜ r ≡ lengthOf form size ⌝ }
+{
+    match form {
+        Form::Text => frame_length(size) + 74,
+        Form::Bitmap => bitmap_length(size),
+        Form::Cells => 675 + 74,
+    }
+}
+
+// A byte of the line with the state.
+fn state_byte(rec: Record, place: usize) -> u8
+    ensures { λ r. ⌜ r ≡ stateByte rec place ⌝ }
+{
+    let line = state_line(rec);
+    byte_in(&line, place)
+}
+
+// The frame line by line, then the state.
+fn text_byte(dots: &[u8], rec: Record, size: Size, place: usize) -> u8
+    requires { ⌜ Small size ⌝ }
+    ensures { λ r. ⌜ r ≡ textByte (now (dots .entry)) rec size place ⌝ }
+{
+    if place < frame_length(size) {
+        return frame_at(
+            dots,
+            size,
+            place % frame_width(size),
+            place / frame_width(size),
+        );
+    }
+    state_byte(rec, place - frame_length(size))
+}
+
+fn head_byte(size: Size, place: usize) -> u8
+    requires { ⌜ Small size ⌝ }
+    ensures { λ r. ⌜ r ≡ headByte size place ⌝ }
+{
+    let head = bitmap_head(size);
+    byte_in(&head, place)
+}
+
+// The head, then the pixels row by row.
+fn bitmap_byte(dots: &[u8], size: Size, place: usize) -> u8
+    requires { ⌜ (Small size) × (place < bitmapLength size) ⌝ }
+    ensures { λ r. ⌜ r ≡ bitmapByte (now (dots .entry)) size place ⌝ }
+{
+    if place < 13 {
+        return head_byte(size, place);
+    }
+    let width = last_x(size) + 1;
+    pixels_at(dots, size, (place - 13) % width, (place - 13) / width)
+}
+
+// The cells line by line, then the state.
+fn cells_byte(memory: &[u8], rec: Record, size: Size, place: usize) -> u8
+    requires { ⌜ rec .shift < 80 ⌝ }
+    ensures { λ r. ⌜ r ≡ cellsByte (now (memory .entry)) rec size place ⌝ }
+{
+    if place < 675 {
+        let n = rec.function.n;
+        let shift = rec.shift as usize;
+        return listing_at(memory, n, shift, size, place % 75, place / 75);
+    }
+    state_byte(rec, place - 675)
+}
+
+fn byte_at(form: Form, dots: &[u8], memory: &[u8], rec: Record, size: Size, place: usize) -> u8
+    requires { ⌜ (Small size) × (rec .shift < 80) × (place < lengthOf form size) ⌝ }
+    ensures { λ r. ⌜ r ≡ byteAt form (now (dots .entry)) (now (memory .entry)) rec size place ⌝ }
+{
+    match form {
+        Form::Text => text_byte(dots, rec, size, place),
+        Form::Bitmap => bitmap_byte(dots, size, place),
+        Form::Cells => cells_byte(memory, rec, size, place),
+    }
+}
+
+// The whole drawing, byte after byte.
+fn fill(
+    form: Form,
+    dots: &[u8],
+    memory: &[u8],
+    rec: Record,
+    size: Size,
+    count: usize,
+    out: &mut [u8],
+)
+    requires { ⌜ (Small size) × (rec .shift < 80) × (count ≡ lengthOf form size) × (count ≤ length (now out)) ⌝ }
+    ensures { λ _. ⌜ now (out .exit) ≡ painted (byteAt form (now (dots .entry)) (now (memory .entry)) rec size) 0 count (now (out .entry)) ⌝ }
+{
+    let mut place = 0;
+    while place < count {
+        out[place] = byte_at(form, dots, memory, rec, size, place);
+        place += 1;
+    }
+}
+
+fn is_done(answer: Answer) -> bool
+    ensures { λ r. ⌜ r ≡ eqb (numberOf answer) 0 ⌝ }
+{
+    number(answer) == 0
+}
+
+fn refused(answer: Answer) -> Written
+    ensures { λ r. ⌜ r ≡ record { answer = answer; length = 0 } ⌝ }
+{
+    Written { answer, length: 0 }
+}
+
+// Draws a picture that was taken, where the output has room for it.
+fn draw_taken(
+    form: Form,
+    dots: &[u8],
+    memory: &[u8],
+    rec: Record,
+    size: Size,
+    out: &mut [u8],
+) -> Written
+    requires { ⌜ (Small size) × (rec .shift < 80) ⌝ }
+    ensures { λ r. ⌜ Taken form (now (dots .entry)) (now (memory .entry)) rec size (now (out .entry)) r (now (out .exit)) ⌝ }
+{
+    let length = length_of(form, size);
+    if out.len() < length {
+        return refused(Answer::OutputShort);
+    }
+    fill(form, dots, memory, rec, size, length, out);
+    Written {
+        answer: Answer::Done,
+        length,
+    }
+}
+
+// Draws what a panel shows into the first bytes of the output, or refuses and leaves the output as it is.
+pub fn draw(
+    form: Form,
+    rec: Record,
+    memory: &[u8],
+    columns: u8,
+    lines: u8,
+    lit: bool,
+    out: &mut [u8],
+) -> Written
+    ensures { λ r. ⌜ Drawn form rec (now (memory .entry)) columns lines lit (now (out .entry)) r (now (out .exit)) ⌝ }
+{
+    let mut dots = [0u8; 640];
+    let answer = picture(rec, memory, columns, lines, lit, &mut dots);
+    if !is_done(answer) {
+        return refused(answer);
+    }
+    let function = rec.function;
+    let size = Size {
+        columns: columns as usize,
+        lines: lines as usize,
+        rows: rows_of(function),
+    };
+    draw_taken(form, &dots, memory, rec, size, out)
+}

@@ -1,0 +1,140 @@
+// All 144 cells as hexadecimal, sixteen to a line: the display cells, then the pattern cells. A display cell that no position of the
+// glass shows is marked `*`.
+ghost use mathlib.Core.Path.{_≡_};
+ghost use Prim.Native.Nat.{_≤_, _<_};
+ghost use Rattle.drawing.specs.Grid.{Small};
+ghost use Rattle.drawing.specs.Listing.{cellAt, cellChar, displayLabel, isOnGlass, isSpare, isWithin, labelFor, listingAt, markFor, patternLabel};
+use crate::grid::Size;
+use crate::grid::byte_in;
+use crate::numbers::digit_for;
+use crate::numbers::two_wide;
+use controller::line_length;
+
+// Whether a glass shows this display cell, where a line has so many cells.
+fn is_within(length: usize, shift: usize, size: Size, cell: usize) -> bool
+    requires { ⌜ (0 < length) × (shift < 80) × (cell < 80) ⌝ }
+    ensures { λ r. ⌜ r ≡ isWithin length shift size cell ⌝ }
+{
+    cell / length < size.lines && (cell + 80 - shift) % length < size.columns
+}
+
+// Whether a position of the glass shows this display cell.
+fn is_on_glass(n: bool, shift: usize, size: Size, cell: usize) -> bool
+    requires { ⌜ (shift < 80) × (cell < 80) ⌝ }
+    ensures { λ r. ⌜ r ≡ isOnGlass n shift size cell ⌝ }
+{
+    is_within(line_length(n) as usize, shift, size, cell)
+}
+
+// Whether the cell at this place of the memory is a display cell that the glass does not show.
+fn is_spare(n: bool, shift: usize, size: Size, place: usize) -> bool
+    requires { ⌜ shift < 80 ⌝ }
+    ensures { λ r. ⌜ r ≡ isSpare n shift size place ⌝ }
+{
+    if place < 80 {
+        return !is_on_glass(n, shift, size, place);
+    }
+    false
+}
+
+fn display_label(cell: usize) -> [u8; 10]
+    ensures { λ r. ⌜ r ≡ displayLabel cell ⌝ }
+{
+    let number = two_wide(cell);
+    [
+        b'd',
+        b'i',
+        b's',
+        b'p',
+        b'l',
+        b'a',
+        b'y',
+        b' ',
+        number[0],
+        number[1],
+    ]
+}
+
+fn pattern_label(cell: usize) -> [u8; 10]
+    ensures { λ r. ⌜ r ≡ patternLabel cell ⌝ }
+{
+    let number = two_wide(cell);
+    [
+        b'p',
+        b'a',
+        b't',
+        b't',
+        b'e',
+        b'r',
+        b'n',
+        b' ',
+        number[0],
+        number[1],
+    ]
+}
+
+// What stands before a line of cells: the memory, and its first cell there.
+fn label_for(line: usize) -> [u8; 10]
+    requires { ⌜ line ≤ 255 ⌝ }
+    ensures { λ r. ⌜ r ≡ labelFor line ⌝ }
+{
+    if line < 5 {
+        return display_label(line * 16);
+    }
+    pattern_label((line - 5) * 16)
+}
+
+fn mark_for(spare: bool) -> u8
+    ensures { λ r. ⌜ r ≡ markFor spare ⌝ }
+{
+    if spare {
+        return b'*';
+    }
+    b' '
+}
+
+// One of the four bytes of a cell: a blank, its mark, and two digits.
+fn cell_char(spare: bool, byte: u8, at: usize) -> u8
+    ensures { λ r. ⌜ r ≡ cellChar spare byte at ⌝ }
+{
+    if at == 0 {
+        return b' ';
+    }
+    if at == 1 {
+        return mark_for(spare);
+    }
+    if at == 2 {
+        return digit_for(byte / 16);
+    }
+    digit_for(byte % 16)
+}
+
+// A byte of a cell's four.
+fn cell_at(memory: &[u8], n: bool, shift: usize, size: Size, place: usize, at: usize) -> u8
+    requires { ⌜ shift < 80 ⌝ }
+    ensures { λ r. ⌜ r ≡ cellAt (now (memory .entry)) n shift size place at ⌝ }
+{
+    cell_char(is_spare(n, shift, size, place), byte_in(memory, place), at)
+}
+
+// The byte of the listing at a column of a line; past the last cell is the end of the line.
+pub fn listing_at(memory: &[u8], n: bool, shift: usize, size: Size, x: usize, line: usize) -> u8
+    requires { ⌜ (shift < 80) × (x ≤ 255) × (line ≤ 255) ⌝ }
+    ensures { λ r. ⌜ r ≡ listingAt (now (memory .entry)) n shift size x line ⌝ }
+{
+    if x == 74 {
+        return b'\n';
+    }
+    if x < 10 {
+        let label = label_for(line);
+        return label[x];
+    }
+    cell_at(
+        memory,
+        n,
+        shift,
+        size,
+        line * 16 + (x - 10) / 4,
+        (x - 10) % 4,
+    )
+}

@@ -1,0 +1,118 @@
+// One line with the state that a repairer asks for.
+ghost use mathlib.Core.Path.{_≡_};
+ghost use Rattle.drawing.specs.State.{cellOf, halfShown, linesShown, memoryShown, onOff, readShown, stateLine, writeShown};
+use crate::numbers::digit_for;
+use crate::numbers::four_wide;
+use crate::numbers::padded_digit;
+use crate::numbers::two_wide;
+use controller::Counter;
+use controller::Half;
+use controller::Record;
+
+// The display, `on` or `off`.
+fn on_off(d: bool) -> [u8; 3]
+    ensures { λ r. ⌜ r ≡ onOff d ⌝ }
+{
+    if d {
+        return *b"on ";
+    }
+    *b"off"
+}
+
+// The counter's memory.
+fn memory_shown(counter: Counter) -> [u8; 7]
+    ensures { λ r. ⌜ r ≡ memoryShown counter ⌝ }
+{
+    match counter {
+        Counter::Display(_) => *b"display",
+        Counter::Pattern(_) => *b"pattern",
+    }
+}
+
+// The counter's cell.
+fn cell_of(counter: Counter) -> u8
+    ensures { λ r. ⌜ r ≡ cellOf counter ⌝ }
+{
+    match counter {
+        Counter::Display(cell) => cell,
+        Counter::Pattern(cell) => cell,
+    }
+}
+
+// A read's half: the letter of its kind, and its whole byte.
+fn read_shown(letter: u8, byte: u8) -> [u8; 4]
+    ensures { λ r. ⌜ r ≡ readShown letter byte ⌝ }
+{
+    [letter, b' ', digit_for(byte / 16), digit_for(byte % 16)]
+}
+
+// A write's half: the letter of its kind, and its high four bits as they came over the bus, with 0h below.
+fn write_shown(letter: u8, high: u8) -> [u8; 4]
+    ensures { λ r. ⌜ r ≡ writeShown letter high ⌝ }
+{
+    [letter, b' ', digit_for(high % 16), b'0']
+}
+
+// The half that waits.
+fn half_shown(half: Half) -> [u8; 4]
+    ensures { λ r. ⌜ r ≡ halfShown half ⌝ }
+{
+    match half {
+        Half::Empty => *b"none",
+        Half::InstructionWrite(high) => write_shown(b'I', high),
+        Half::DataWrite(high) => write_shown(b'D', high),
+        Half::StatusRead(byte) => read_shown(b'S', byte),
+        Half::DataRead(byte) => read_shown(b'R', byte),
+    }
+}
+
+// The lines that N drives.
+fn lines_shown(n: bool) -> u8
+    ensures { λ r. ⌜ r ≡ linesShown n ⌝ }
+{
+    if n {
+        return b'2';
+    }
+    b'1'
+}
+
+// The state in fields of fixed places, so that two states can be compared one below the other.
+pub fn state_line(rec: Record) -> [u8; 74]
+    ensures { λ r. ⌜ r ≡ stateLine rec ⌝ }
+{
+    let counter = rec.counter;
+    let half = rec.half;
+    let busy = rec.busy as usize;
+    let on = on_off(rec.control.d);
+    let name = memory_shown(counter);
+    let cell = two_wide(cell_of(counter) as usize);
+    let shift = two_wide(rec.shift as usize);
+    let low = four_wide(busy);
+    let waiting = half_shown(half);
+    let mut text = *b"lines 1  display off  counter display  0  shift  0  busy     0  half none\n";
+    text[6] = lines_shown(rec.function.n);
+    text[17] = on[0];
+    text[18] = on[1];
+    text[19] = on[2];
+    text[30] = name[0];
+    text[31] = name[1];
+    text[32] = name[2];
+    text[33] = name[3];
+    text[34] = name[4];
+    text[35] = name[5];
+    text[36] = name[6];
+    text[38] = cell[0];
+    text[39] = cell[1];
+    text[48] = shift[0];
+    text[49] = shift[1];
+    text[57] = padded_digit(busy, 10_000);
+    text[58] = low[0];
+    text[59] = low[1];
+    text[60] = low[2];
+    text[61] = low[3];
+    text[69] = waiting[0];
+    text[70] = waiting[1];
+    text[71] = waiting[2];
+    text[72] = waiting[3];
+    text
+}
