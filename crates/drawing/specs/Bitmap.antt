@@ -8,11 +8,11 @@ use lib.Dec.{eqb}
 use Rattle.lines.specs.Digits.{newline}
 use Rattle.drawing.specs.declared.grid.Size.{Size}
 use Rattle.drawing.specs.Grid.{lastX, lastY, isLit}
-use Rattle.drawing.specs.Numbers.{fourWide}
+use Rattle.drawing.specs.Numbers.{fourDigits}
 
 -- `P4`, the width and the height in pixels.
 unfoldable pub headFor : ℕ → ℕ → List ℕ
-headFor width height = 0x50 ∷ 0x34 ∷ newline ∷ (fourWide width ++ (0x20 ∷ (fourWide height ++ (newline ∷ []))))
+headFor width height = 0x50 ∷ 0x34 ∷ newline ∷ (fourDigits width ++ (0x20 ∷ (fourDigits height ++ (newline ∷ []))))
 
 -- The head of a panel's bitmap.
 unfoldable pub bitmapHead : Size → List ℕ

@@ -8,14 +8,14 @@ use crate::grid::Size;
 use crate::grid::is_lit;
 use crate::grid::last_x;
 use crate::grid::last_y;
-use crate::numbers::four_wide;
+use crate::numbers::four_digits;
 
 // `P4`, and the width and the height in pixels.
 fn head_for(width: usize, height: usize) -> [u8; 13]
     ensures { λ r. ⌜ r ≡ headFor width height ⌝ }
 {
-    let wide = four_wide(width);
-    let high = four_wide(height);
+    let wide = four_digits(width);
+    let high = four_digits(height);
     [
         b'P',
         b'4',

@@ -2,7 +2,7 @@
 ghost use mathlib.Core.Path.{_≡_};
 ghost use Prim.Native.Nat.{_≤_, _<_};
 ghost use Rattle.lines.specs.Digits.{digit};
-ghost use Rattle.drawing.specs.Numbers.{padded, fourWide, twoWide};
+ghost use Rattle.drawing.specs.Numbers.{fourDigits, fourWide, padded, twoWide};
 
 // The digit that is worth this much, `0` to `9` and `A` to `F`.
 pub fn digit_for(worth: u8) -> u8
@@ -41,6 +41,18 @@ pub fn four_wide(number: usize) -> [u8; 4]
         padded_digit(number, 1000),
         padded_digit(number, 100),
         padded_digit(number, 10),
+        digit_for((number % 10) as u8),
+    ]
+}
+
+// A number as four digits.
+pub fn four_digits(number: usize) -> [u8; 4]
+    ensures { λ r. ⌜ r ≡ fourDigits number ⌝ }
+{
+    [
+        digit_for((number / 1000 % 10) as u8),
+        digit_for((number / 100 % 10) as u8),
+        digit_for((number / 10 % 10) as u8),
         digit_for((number % 10) as u8),
     ]
 }

@@ -1,16 +1,16 @@
 -- `drawing::bitmap::head_for` meets its contract: each return follows from the tests and the calls before it.
 -- Assumes nothing.
 use Rattle.drawing.specs.Bitmap.{headFor}
-use Rattle.drawing.specs.Numbers.{fourWide}
+use Rattle.drawing.specs.Numbers.{fourDigits}
 use borrow.Author.Needs.{needs}
 use Rattle.drawing.proofs.bitmap.head_for.Statement.{statement}
 use Rattle.drawing.proofs.bitmap.head_for.Tie as tie
 
-four-wide-requires : tie.Need-four-wide-requires
-four-wide-requires c κs = search needs
+four-digits-requires : tie.Need-four-digits-requires
+four-digits-requires c κs = search needs
 
-four-wide-requires-2 : tie.Need-four-wide-requires-2
-four-wide-requires-2 c κs = search needs
+four-digits-requires-2 : tie.Need-four-digits-requires-2
+four-digits-requires-2 c κs = search needs
 
 array-read-t8 : tie.Need-array-read-t8
 array-read-t8 c = search needs
@@ -37,15 +37,15 @@ array-read-t29 : tie.Need-array-read-t29
 array-read-t29 c = search needs
 
 returns : tie.Need-returns
-unfolding headFor fourWide
-returns c = simp (c .four-wide2 .ensures, c .before .four-wide .ensures)
+unfolding headFor fourDigits
+returns c = simp (c .four-digits2 .ensures, c .before .four-digits .ensures)
 
 pub head-for-spec : {M : Type 1} → statement M
 head-for-spec =
     tie.close
     (tie.spec
-    four-wide-requires
-    four-wide-requires-2
+    four-digits-requires
+    four-digits-requires-2
     array-read-t8
     array-read-t11
     array-read-t14

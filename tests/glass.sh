@@ -1,0 +1,92 @@
+#!/bin/sh
+# Runs the program `glass` (target/bin/panel) on every tests/glass/NAME.words, whose first word is the session and the others
+# are the program's, and compares what it writes with NAME.out; then on words that it must turn down, and on input and output
+# that are too long or closed.
+# Prints 'glass: N passed, M failed', and fails where M is not 0.
+set -u
+cd "$(dirname "$0")/.."
+program=target/bin/panel
+work=$(mktemp -d)
+trap 'rm -rf "$work"' EXIT
+passed=0
+failed=0
+
+# Counts a test by the status of the command before it.
+count() {
+    if [ "$2" -eq 0 ]; then
+        passed=$((passed + 1))
+    else
+        failed=$((failed + 1))
+        echo "glass: FAILED: $1"
+    fi
+}
+
+# Compares two files.
+same() {
+    cmp -s "$2" "$3"
+    count "$1" $?
+}
+
+for words in tests/glass/*.words; do
+    name=$(basename "$words" .words)
+    # The words are parted by blanks and hold nothing that the shell would read.
+    # shellcheck disable=SC2046
+    set -- $(cat "$words")
+    session=$1
+    shift
+    timeout 20 "$program" "$@" < "$session" > "$work/got" 2> "$work/errors"
+    same "$name" "$work/got" "tests/glass/$name.out"
+    [ ! -s "$work/errors" ]
+    count "$name: nothing on standard error" $?
+done
+
+# Words that cannot be followed: what is allowed is told on standard error, and nothing is drawn.
+echo 'glass: allowed are COLUMNS LINES, 1 to 40 and 1 or 2 (16 2 where none are given), and --pbm or --cells' > "$work/allowed"
+: > "$work/empty"
+for words in '0 1' '41 2' '16 0' '16 3' '16' '20 2 1' '-1 2' '1a 2' '016 2' 'x' '--bmp' '--pbm --cellss' '20 2 --cells --'; do
+    # shellcheck disable=SC2086
+    timeout 20 "$program" $words < examples/hello.session > "$work/got" 2> "$work/errors"
+    same "told of: $words" "$work/errors" "$work/allowed"
+    same "not drawn: $words" "$work/got" "$work/empty"
+done
+timeout 20 "$program" '' < examples/hello.session > "$work/got" 2> "$work/errors"
+same 'told of an empty word' "$work/errors" "$work/allowed"
+
+# A bad line with a bitmap: the row stands on standard error, and the bitmap alone on standard output.
+timeout 20 "$program" 8 1 --pbm < tests/glass/bad_line.session > "$work/got" 2> "$work/errors"
+printf 'no\tanswer\tbyte\tbusy\n4\t12\t00\t40\n' > "$work/want"
+same 'a bad line beside a bitmap' "$work/errors" "$work/want"
+head -c 13 "$work/got" > "$work/head"
+printf 'P4\n0392 0080\n' > "$work/want"
+same "a bitmap's head" "$work/head" "$work/want"
+[ "$(wc -c < "$work/got")" -eq 3933 ]
+count 'a bitmap of 8 x 1 has 3,933 bytes' $?
+
+# 65,537 bytes: one line, and nothing else.
+awk 'BEGIN { for (i = 1; i <= 9362; i++) printf "S\t00\t0\n"; printf "S\t0" }' > "$work/long"
+[ "$(wc -c < "$work/long")" -eq 65537 ]
+count 'the long session has 65,537 bytes' $?
+timeout 20 "$program" < "$work/long" > "$work/got"
+echo 'too long' > "$work/want"
+same '65,537 bytes' "$work/got" "$work/want"
+
+# Closed standard input draws the panel after reset; closed output, a full disk and a pipe that nobody reads end the program.
+timeout 20 "$program" <&- > "$work/got"
+same 'closed standard input' "$work/got" tests/glass/nothing.out
+timeout 20 "$program" < examples/hello.session >&-
+count 'closed standard output' $?
+if [ -c /dev/full ]; then
+    timeout 20 "$program" < examples/hello.session > /dev/full
+    count 'a full disk' $?
+fi
+{
+    timeout 20 "$program" 40 2 --pbm < examples/hello.session
+    echo $? > "$work/status"
+} | true
+case $(cat "$work/status") in
+    0 | 141) count 'a closed pipe' 0 ;;
+    *) count 'a closed pipe' 1 ;;
+esac
+
+echo "glass: $passed passed, $failed failed"
+[ "$failed" -eq 0 ]
