@@ -45,12 +45,36 @@ halfShown (DataWrite high) = writeShown 0x44 high
 halfShown (StatusRead byte) = readShown 0x53 byte
 halfShown (DataRead byte) = readShown 0x52 byte
 
+-- `lines`, as it stands before its field.
+abbrev pub linesWord : List ℕ
+linesWord = 0x6C ∷ 0x69 ∷ 0x6E ∷ 0x65 ∷ 0x73 ∷ 0x20 ∷ []
+
+-- `display`, as it stands before its field.
+abbrev pub displayWord : List ℕ
+displayWord = 0x20 ∷ 0x20 ∷ 0x64 ∷ 0x69 ∷ 0x73 ∷ 0x70 ∷ 0x6C ∷ 0x61 ∷ 0x79 ∷ 0x20 ∷ []
+
+-- `counter`, as it stands before its field.
+abbrev pub counterWord : List ℕ
+counterWord = 0x20 ∷ 0x20 ∷ 0x63 ∷ 0x6F ∷ 0x75 ∷ 0x6E ∷ 0x74 ∷ 0x65 ∷ 0x72 ∷ 0x20 ∷ []
+
+-- `shift`, as it stands before its field.
+abbrev pub shiftWord : List ℕ
+shiftWord = 0x20 ∷ 0x20 ∷ 0x73 ∷ 0x68 ∷ 0x69 ∷ 0x66 ∷ 0x74 ∷ 0x20 ∷ []
+
+-- `busy`, as it stands before its field.
+abbrev pub busyWord : List ℕ
+busyWord = 0x20 ∷ 0x20 ∷ 0x62 ∷ 0x75 ∷ 0x73 ∷ 0x79 ∷ 0x20 ∷ []
+
+-- `half`, as it stands before its field.
+abbrev pub halfWord : List ℕ
+halfWord = 0x20 ∷ 0x20 ∷ 0x68 ∷ 0x61 ∷ 0x6C ∷ 0x66 ∷ 0x20 ∷ []
+
 -- The whole line: lines, display, counter, shift, busy, half.
 unfoldable pub stateLine : Record → List ℕ
 stateLine rec =
-    0x6C ∷ 0x69 ∷ 0x6E ∷ 0x65 ∷ 0x73 ∷ 0x20 ∷ linesShown (rec .function .n)
-    ∷ 0x20 ∷ 0x20 ∷ 0x64 ∷ 0x69 ∷ 0x73 ∷ 0x70 ∷ 0x6C ∷ 0x61 ∷ 0x79 ∷ 0x20 ∷ (onOff (rec .control .d)
-    ++ (0x20 ∷ 0x20 ∷ 0x63 ∷ 0x6F ∷ 0x75 ∷ 0x6E ∷ 0x74 ∷ 0x65 ∷ 0x72 ∷ 0x20 ∷ (memoryShown (rec .counter) ++ (0x20 ∷ (twoWide (cellOf (rec .counter))
-    ++ (0x20 ∷ 0x20 ∷ 0x73 ∷ 0x68 ∷ 0x69 ∷ 0x66 ∷ 0x74 ∷ 0x20 ∷ (twoWide (rec .shift)
-    ++ (0x20 ∷ 0x20 ∷ 0x62 ∷ 0x75 ∷ 0x73 ∷ 0x79 ∷ 0x20 ∷ (fiveWide (rec .busy)
-    ++ (0x20 ∷ 0x20 ∷ 0x68 ∷ 0x61 ∷ 0x6C ∷ 0x66 ∷ 0x20 ∷ (halfShown (rec .half) ++ (newline ∷ []))))))))))))
+    linesWord ++ (linesShown (rec .function .n)
+    ∷ (displayWord ++ (onOff (rec .control .d)
+    ++ (counterWord ++ (memoryShown (rec .counter) ++ (0x20 ∷ (twoWide (cellOf (rec .counter))
+    ++ (shiftWord ++ (twoWide (rec .shift)
+    ++ (busyWord ++ (fiveWide (rec .busy)
+    ++ (halfWord ++ (halfShown (rec .half) ++ (newline ∷ []))))))))))))))
