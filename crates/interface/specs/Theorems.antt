@@ -23,3 +23,7 @@ RecordWritesBack = (bytes : List ℕ) (rec : Record) → recordIn bytes ≡ Is r
 -- The bytes of any wish say that wish.
 abbrev pub WishReadsBack : Type 0
 WishReadsBack = (wish : Wish) → wishIn (wishBytes wish) ≡ ReadWish.Is wish
+
+-- Bytes that say a wish are its bytes.
+abbrev pub WishWritesBack : Type 0
+WishWritesBack = (bytes : List ℕ) (wish : Wish) → wishIn bytes ≡ ReadWish.Is wish → wishBytes wish ≡ bytes
