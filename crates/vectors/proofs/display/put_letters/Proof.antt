@@ -1,0 +1,61 @@
+-- `vectors::display::put_letters` meets its contract: every position lies on the glass; the measure is the columns that are left.
+-- Assumes nothing.
+use Prim.Native.Nat.{_-_, _≤_}
+use mathlib.Core.Path.{_≡_}
+use lib.ListN.{length}
+use borrow.Author.Needs.{needs}
+use Rattle.vectors.proofs.display.put_letters.Statement.{statement}
+use Rattle.vectors.proofs.display.put_letters.Tie as tie
+
+abbrev Inv-loop : tie.InvT-loop
+Inv-loop seen₀ at shapes picture first next₀ column₀ seen next column = (column ≤ 16) × (length seen ≡ length seen₀)
+
+abbrev μ-loop : tie.MeasureT-loop
+μ-loop seen₀ at shapes picture first next₀ column₀ seen next column = 16 - column
+
+loop-holds : tie.Need-loop-holds Inv-loop μ-loop
+loop-holds c = search needs
+
+add-letter-at : tie.Need-add-letter-at Inv-loop μ-loop
+add-letter-at c = search needs
+
+letter-at-requires : tie.Need-letter-at-requires Inv-loop μ-loop
+letter-at-requires c κs = search needs
+
+put-byte-requires : tie.Need-put-byte-requires Inv-loop μ-loop
+put-byte-requires c κs = search needs
+
+add-column : tie.Need-add-column Inv-loop μ-loop
+add-column c = search needs
+
+loop-less : tie.Need-loop-less Inv-loop μ-loop
+loop-less c = search needs
+
+loop-again : tie.Need-loop-again Inv-loop μ-loop
+loop-again c = search needs
+
+put-byte-requires-2 : tie.Need-put-byte-requires-2 Inv-loop μ-loop
+put-byte-requires-2 c κs = search needs
+
+same-length : tie.Need-same-length Inv-loop μ-loop
+same-length c = search needs
+
+returns : tie.Need-returns Inv-loop μ-loop
+returns c = search needs
+
+pub put-letters-spec : {M : Type 1} → statement M
+put-letters-spec =
+    tie.close
+    (tie.spec
+    Inv-loop
+    μ-loop
+    loop-holds
+    add-letter-at
+    letter-at-requires
+    put-byte-requires
+    add-column
+    loop-less
+    loop-again
+    put-byte-requires-2
+    same-length
+    returns)

@@ -1,0 +1,48 @@
+// Plays the manuals' own examples on the controller itself, and compares what the glass then shows with what the manual
+// prints. Each example is a text of rows (module `row`), typed in from its document; docs/VECTORS.md names the places where
+// the print itself is wrong, and what decides there.
+mod display;
+mod document_001;
+mod example;
+mod player;
+mod record;
+mod report;
+mod row;
+mod shapes;
+mod text;
+
+use libc::STDOUT_FILENO;
+use report::Tally;
+use report::put_total;
+use shapes::shapes;
+
+// The first bytes of the buffer, as many as this.
+fn write_first(out: &[u8], length: usize) {
+    if out.len() < length {
+        return;
+    }
+    io::write_all(STDOUT_FILENO, &out[..length]);
+}
+
+// Every document's examples, in their order.
+fn play_documents(out: &mut [u8]) -> Tally {
+    let shapes = shapes();
+    let nothing = Tally {
+        at: 0,
+        steps: 0,
+        differ: 0,
+    };
+    let first = document_001::play_examples(out, &shapes, nothing);
+    put_total(out, first)
+}
+
+fn print(out: &[u8; 65536], length: usize) {
+    write_first(out, length);
+}
+
+// The report is gathered and written once. The buffer holds it even where every row differs.
+fn main() {
+    let mut out = [0u8; 65536];
+    let total = play_documents(&mut out);
+    print(&out, total.at);
+}
