@@ -3,6 +3,7 @@
 // the print itself is wrong, and what decides there.
 mod display;
 mod document_001;
+mod document_003;
 mod example;
 mod player;
 mod record;
@@ -33,7 +34,8 @@ fn play_documents(out: &mut [u8]) -> Tally {
         differ: 0,
     };
     let first = document_001::play_examples(out, &shapes, nothing);
-    put_total(out, first)
+    let third = document_003::play_examples(out, &shapes, first);
+    put_total(out, third)
 }
 
 fn print(out: &[u8; 65536], length: usize) {
