@@ -4,6 +4,7 @@
 mod display;
 mod document_001;
 mod document_003;
+mod document_004;
 mod example;
 mod player;
 mod record;
@@ -35,7 +36,8 @@ fn play_documents(out: &mut [u8]) -> Tally {
     };
     let first = document_001::play_examples(out, &shapes, nothing);
     let third = document_003::play_examples(out, &shapes, first);
-    put_total(out, third)
+    let fourth = document_004::play_examples(out, &shapes, third);
+    put_total(out, fourth)
 }
 
 fn print(out: &[u8; 65536], length: usize) {
