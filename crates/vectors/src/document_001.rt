@@ -5,10 +5,11 @@ use crate::example::play;
 use crate::report::Tally;
 
 // Steps 1 to 25. Step 7 stands for the letters between.
-const ONE_LINE: [u8; 2246] = *b"\
+const ONE_LINE: [u8; 2340] = *b"\
 = document 001, 3.2.1: 16 characters x 1 line, using CG RAM
  1 P             L |                | no cursor
  2 I 30    10000 L |                | no cursor
+# prints ten places, the last four without effect; eight are sent
  3 I 0E       40 L |                | cursor 1:01
  4 I 06       40 L |                | cursor 1:01
  5 D 4C       40 L |L               | cursor 1:02
@@ -42,13 +43,14 @@ const ONE_LINE: [u8; 2246] = *b"\
 19 D 14       40 L |                | no cursor
 20 D 1F       40 L |                | no cursor
 21 D 55       40 L |                | no cursor
+# the upper three bits are not shown
 22 D 15       40 L |                | no cursor
 23 D 1F       40 L |                | no cursor
 24 I 80       40 L |                | cursor 1:01
 # prints 00h, which does nothing; a display address has bit 7
 25 D 02       40 L |~               | cursor 1:02
 25 -             1 ***** *.*.* *.*.. ***** *.*.* *.*.* ***** .....
-# the low five bits of 17 to 23; ~ stands for a shape that is no letter's
+# the rows of 17 to 23; ~ stands for a shape that is no letter's
 ";
 
 // Steps 1 to 15. Steps 7 and 12 stand for the letters between.

@@ -115,7 +115,7 @@ const FROM_INSTRUCTION_HALF: [u8; 553] = *b"\
 ";
 
 // The worked example, the display's column row by row.
-const PATTERNS: [u8; 907] = *b"\
+const PATTERNS: [u8; 1011] = *b"\
 = document 004, programming CG RAM
    P
    I 38    15000
@@ -125,12 +125,14 @@ const PATTERNS: [u8; 907] = *b"\
    I 0E       40
    I 01       40
    D 00     1640
+# prints 1.6 ms after 01h; document 01 has 1,640 us
    D 01       40
    I 0C       40
 # codes 00h and 01h stand at the first two positions, so that each row shows as it is written
  1 I 40       40
  2 D 11       40 1 *...* ..... ..... ..... ..... ..... ..... .....
  3 D 0A       40 1 *...* .*.*. ..... ..... ..... ..... ..... .....
+# the prose prints 00 for LHLHL; the example has 0A
  4 D 1F       40 1 *...* .*.*. ***** ..... ..... ..... ..... .....
  5 D 04       40 1 *...* .*.*. ***** ..*.. ..... ..... ..... .....
  6 D 1F       40 1 *...* .*.*. ***** ..*.. ***** ..... ..... .....
