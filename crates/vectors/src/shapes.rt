@@ -66,7 +66,12 @@ pub fn dots(picture: &[u8; 256], position: usize, row: usize) -> u8
     picture[position / 16 * 128 + row * 16 + position % 16]
 }
 
-// Whether a position has the shape of this letter. The eighth row is the cursor's.
+// The eighth row is the cursor's: all five dots or none.
+fn is_cursor_row(row: u8) -> bool {
+    row == 0b11111 || row == 0
+}
+
+// Whether a position has the shape of this letter, in its upper seven rows.
 fn is_letter(shapes: &[u8; 768], picture: &[u8; 256], position: usize, letter: usize) -> bool
     requires { ⌜ (position < 32) × (letter < 96) ⌝ }
 {
@@ -84,6 +89,9 @@ fn is_letter(shapes: &[u8; 768], picture: &[u8; 256], position: usize, letter: u
 pub fn letter_at(shapes: &[u8; 768], picture: &[u8; 256], position: usize) -> u8
     requires { ⌜ position < 32 ⌝ }
 {
+    if !is_cursor_row(dots(picture, position, 7)) {
+        return b'~';
+    }
     let mut code = 0x20;
     let mut letter = 0;
     while letter < 96 {

@@ -12,14 +12,23 @@ Inv-loop shapes picture position code₀ letter₀ code letter = (letter ≤ 96)
 abbrev μ-loop : tie.MeasureT-loop
 μ-loop shapes picture position code₀ letter₀ code letter = 96 - letter
 
+dots-requires : tie.Need-dots-requires Inv-loop μ-loop
+dots-requires c κs = search needs
+
+is-cursor-row-requires : tie.Need-is-cursor-row-requires Inv-loop μ-loop
+is-cursor-row-requires c κs = search needs
+
+returns : tie.Need-returns Inv-loop μ-loop
+returns c = search needs
+
 loop-holds : tie.Need-loop-holds Inv-loop μ-loop
 loop-holds c = search needs
 
 is-letter-requires : tie.Need-is-letter-requires Inv-loop μ-loop
 is-letter-requires c κs = search needs
 
-returns : tie.Need-returns Inv-loop μ-loop
-returns c = search needs
+returns-2 : tie.Need-returns-2 Inv-loop μ-loop
+returns-2 c = search needs
 
 add-code : tie.Need-add-code Inv-loop μ-loop
 add-code c = search needs
@@ -33,8 +42,8 @@ loop-less c = search needs
 loop-again : tie.Need-loop-again Inv-loop μ-loop
 loop-again c = search needs
 
-returns-2 : tie.Need-returns-2 Inv-loop μ-loop
-returns-2 c = search needs
+returns-3 : tie.Need-returns-3 Inv-loop μ-loop
+returns-3 c = search needs
 
 pub letter-at-spec : {M : Type 1} → statement M
 letter-at-spec =
@@ -42,11 +51,14 @@ letter-at-spec =
     (tie.spec
     Inv-loop
     μ-loop
+    dots-requires
+    is-cursor-row-requires
+    returns
     loop-holds
     is-letter-requires
-    returns
+    returns-2
     add-code
     add-letter
     loop-less
     loop-again
-    returns-2)
+    returns-3)
