@@ -3,3 +3,4 @@ pub mod Read
 pub mod Calls
 pub mod Fillings
 pub mod Plans
+pub mod Told

@@ -1,0 +1,153 @@
+-- What a refused call leaves: two laws, one for the calls that fill a buffer and one for those over a record and a memory, and for
+-- each call what its own refusals are.
+-- Assumes nothing.
+use mathlib.Core.Bool.{Bool, true, false, cond, not, _||_, false≢true}
+use mathlib.Core.List.{List}
+use mathlib.Core.Path.{_≡_, refl, sym, ap, _∙_}
+use Prim.Native.Nat.{ℕ, _+_, _*_}
+use native.Mathlib.Omega.{arith}
+use lib.Dec.{eqb, ltb}
+use lib.ListN.{length}
+use borrow.Author.Tests.{eqb-true, not-false}
+use Rattle.controller.specs.declared.decision.Answer.{Answer}
+use Rattle.controller.specs.declared.decision.Answer.the-variants.{Done, Unsound, NotWhole, OutputShort}
+use Rattle.controller.specs.declared.decision.Decision.{Decision}
+use Rattle.controller.specs.declared.«record».Record.{Record}
+use Rattle.controller.specs.Bus.{badTransfer, decided, resetDecided, whole}
+use Rattle.controller.specs.Decision.{isRefusal, numberOf, performed}
+use Rattle.controller.specs.Theorems.{left}
+use Rattle.controller.proofs.Laws.Choice.{cond-elim}
+use Rattle.controller.proofs.Theorems.Refusals.{transfer-refusals}
+use Rattle.glass.proofs.Theorems.{picture-refusals}
+use Rattle.glass.specs.Picture.{answered}
+use Rattle.lines.specs.Reading.{lineOf}
+use Rattle.lines.specs.declared.reader.Line.{Line}
+use Rattle.lines.specs.Writing.{Writing, lineWriting, onto, wanting}
+use Rattle.planner.specs.Bus.{replyTo}
+use Rattle.planner.proofs.Theorems.Wish.{plan-refusals}
+use Rattle.interface.specs.declared.record_bytes.ReadRecord.{ReadRecord}
+use Rattle.interface.specs.declared.record_bytes.ReadRecord.the-variants.{Is, Broken}
+use Rattle.interface.specs.declared.wish_bytes.ReadWish.{ReadWish}
+use Rattle.interface.specs.declared.wish_bytes.ReadWish.the-variants as ReadWish
+use Rattle.interface.specs.ControllerCalls.{Call, isRecordLong, resetCall, transferFrom}
+use Rattle.interface.specs.Filling.{Filling}
+use Rattle.interface.specs.LineCalls.{stored, writeCall}
+use Rattle.interface.specs.PictureCalls.{pictureFrom}
+use Rattle.interface.specs.PlanCalls.{planFrom, wishless}
+use Rattle.interface.specs.RecordBytes.{recordBytes, recordFrom, recordIn}
+use Rattle.interface.specs.Theorems.{CallRefusals, KeepsBuffer, KeepsMemory, Refuses, answerIn, bytesLeft}
+use Rattle.interface.specs.WishBytes.{wishIn}
+use Rattle.interface.proofs.Laws.Read.{read-own}
+use Rattle.interface.proofs.Laws.Told.{answer-in, one-answer}
+
+-- a refusal that is told is the one that was given, and where that tells nothing beside, it is told bare
+bare : (told answer : Answer) (n returned : ℕ) → returned ≡ numberOf told + 256 * n → (isRefusal told ≡ true → n ≡ 0) → Refuses answer returned
+    → (told ≡ answer) × (isRefusal told ≡ true) × (returned ≡ numberOf answer)
+bare told answer n returned is nothing refuses =
+    let same = one-answer told answer (sym (answer-in told n) ∙ ap answerIn (sym is) ∙ refuses .told) in
+    let refusing = ap isRefusal same ∙ refuses .refusal in
+    let number = ap numberOf same in
+    let none = nothing refusing in
+    (same, refusing, omega arith)
+
+-- a call that fills a buffer: its answer, what it tells beside, and what it leaves where it refuses
+buffer-kept : (call : Filling) (out : List ℕ) (told : Answer) (n : ℕ) → call .returned ≡ numberOf told + 256 * n
+    → (isRefusal told ≡ true → (n ≡ 0) × (call .buffer ≡ out)) → KeepsBuffer call out
+buffer-kept call out told n is kept answer refuses =
+    let b = bare told answer n (call .returned) is (λ r. kept r .0) refuses in
+    λ i. record { returned = b .2 i; buffer = kept (b .1) .1 i }
+
+-- the same of a call over a record and a memory
+memory-kept : (call : Call) (mem : List ℕ) (bytes : Answer → List ℕ) (told : Answer) (n : ℕ) → call .returned ≡ numberOf told + 256 * n
+    → (isRefusal told ≡ true → (n ≡ 0) × (call .rec ≡ bytes told) × (call .memory ≡ mem)) → KeepsMemory call mem bytes
+memory-kept call mem bytes told n is kept answer refuses =
+    let b = bare told answer n (call .returned) is (λ r. kept r .0) refuses in
+    let record-left = kept (b .1) .1 ∙ ap bytes (b .0) in
+    λ i. record { returned = b .2 i; rec = record-left i; memory = kept (b .1) .2 i }
+
+-- a number that is not 0
+not-done : (answer : Answer) → isRefusal answer ≡ true → numberOf answer ≡ 0 → ⊥
+unfolding numberOf isRefusal
+not-done answer r e = false≢true (ap isRefusal (sym (one-answer answer Done e)) ∙ r)
+
+picture-kept : (read : ReadRecord) (mem : List ℕ) (columns lines : ℕ) (lit : Bool) (out : List ℕ) → KeepsBuffer (pictureFrom read mem columns lines lit out) out
+unfolding pictureFrom
+picture-kept Broken mem columns lines lit out = buffer-kept _ out Unsound 0 (omega arith) (λ _. (refl, refl))
+picture-kept (Is rec) mem columns lines lit out =
+    buffer-kept _ out (answered rec mem columns lines (length out)) 0 (omega arith) (λ r. (refl, picture-refusals rec mem columns lines lit out r))
+
+plan-kept : (read : ReadWish) (marks values out : List ℕ) → KeepsBuffer (planFrom read marks values out) out
+unfolding planFrom
+plan-kept ReadWish.Broken marks values out = buffer-kept _ out (wishless marks values) 0 (omega arith) (λ _. (refl, refl))
+plan-kept (ReadWish.Is wish) marks values out =
+    let reply = replyTo wish marks values out in
+    buffer-kept _ out (reply .answer) (length (reply .plan)) refl
+    (λ r. plan-refusals wish marks values out _ _ (record { told = refl; buffer = refl }) (not-done (reply .answer) r))
+
+write-kept : (kind byte wait : ℕ) (out : List ℕ) → KeepsBuffer (writeCall kind byte wait out) out
+unfolding lineWriting wanting isRefusal
+write-kept kind byte wait out =
+    let P : Writing → Type 0 = λ w. isRefusal (w .answer) ≡ true → (length (w .text) ≡ 0) × (onto (w .text) out ≡ out) in
+    buffer-kept _ out (lineWriting kind byte wait out .answer) (length (lineWriting kind byte wait out .text)) refl
+    (cond-elim P (badTransfer kind byte) _ _ (λ _ _. (refl, refl))
+    (λ _. cond-elim P (ltb (length out) 16) _ _ (λ _ _. (refl, refl)) (λ _ r. absurd (false≢true r))))
+
+read-kept : (line : Line) (out : List ℕ) → KeepsBuffer (stored line out) out
+unfolding stored
+read-kept line out =
+    let P : Filling → Type 0 = λ call. KeepsBuffer call out in
+    cond-elim P (not (eqb (numberOf (line .answer)) 0)) _ _ (λ _. buffer-kept _ out (line .answer) 0 refl (λ _. (refl, refl)))
+    (λ good. cond-elim P (ltb (length out) 6) _ _ (λ _. buffer-kept _ out OutputShort 0 refl (λ _. (refl, refl)))
+    (λ _. buffer-kept _ out (line .answer) (line .length) refl
+    (λ r. absurd (not-done (line .answer) r (eqb-true (numberOf (line .answer)) 0 (not-false _ good))))))
+
+-- a reset of a whole memory is no refusal
+reset-done : (rec : Record) (mem : List ℕ) → whole mem ≡ true → isRefusal (resetDecided rec mem .answer) ≡ false
+unfolding resetDecided isRefusal
+reset-done rec mem is = rw is refl
+
+reset-kept : (bytes mem : List ℕ) → KeepsMemory (resetCall bytes mem) mem (λ _. bytes)
+unfolding resetCall
+reset-kept bytes mem =
+    let P : Call → Type 0 = λ call. KeepsMemory call mem (λ _. bytes) in
+    let d = resetDecided (recordFrom bytes) mem in
+    cond-elim P (not (isRecordLong bytes)) _ _ (λ _. memory-kept _ mem _ Unsound 0 (omega arith) (λ _. (refl, refl, refl)))
+    (λ _. cond-elim P (not (whole mem)) _ _ (λ _. memory-kept _ mem _ NotWhole 0 (omega arith) (λ _. (refl, refl, refl)))
+    (λ is. memory-kept _ mem _ (d .answer) (d .byte) refl
+    (λ r. absurd (false≢true (sym (reset-done (recordFrom bytes) mem (not-false _ is)) ∙ r)))))
+
+-- what a refusal leaves of a record, in its bytes
+left-bytes : (answer : Answer) (wait : ℕ) (rec : Record) (bytes : List ℕ) → recordBytes rec ≡ bytes
+    → recordBytes (left answer wait rec) ≡ bytesLeft (Is rec) bytes wait answer
+unfolding left bytesLeft
+left-bytes answer wait rec bytes own = go (eqb (numberOf answer) 4) (eqb (numberOf answer) 6) _ _
+  where
+    go : (four six : Bool) (x y : Record)
+        → recordBytes (cond four x (cond six y rec)) ≡ cond (four || six) (recordBytes (cond four x (cond six y rec))) bytes
+    go true six x y = refl
+    go false true x y = refl
+    go false false x y = own
+
+transfer-kept : (read : ReadRecord) (bytes mem : List ℕ) (kind byte wait : ℕ) → recordIn bytes ≡ read
+    → KeepsMemory (transferFrom read bytes mem kind byte wait) mem (bytesLeft read bytes wait)
+unfolding transferFrom bytesLeft performed
+transfer-kept Broken bytes mem kind byte wait is = memory-kept _ mem _ Unsound 0 (omega arith) (λ _. (refl, refl, refl))
+transfer-kept (Is rec) bytes mem kind byte wait is =
+    let d = decided rec mem kind byte wait in
+    memory-kept _ mem (bytesLeft (Is rec) bytes wait) (d .answer) (d .byte) refl
+    (λ r. let e = transfer-refusals rec mem kind byte wait r in (
+      ap (λ (x : Decision). x .byte) e,
+      ap (λ (x : Decision). recordBytes (x .rec)) e ∙ left-bytes (d .answer) wait rec bytes (read-own bytes rec is),
+      ap (λ (x : Decision). performed (x .effect) mem) e,
+    ))
+
+pub call-refusals : CallRefusals
+call-refusals =
+    record {
+      reset = reset-kept;
+      transfer = λ bytes mem kind byte wait. transfer-kept (recordIn bytes) bytes mem kind byte wait refl;
+      picture = λ bytes mem columns lines lit out. picture-kept (recordIn bytes) mem columns lines (not (eqb lit 0)) out;
+      plan = λ wish marks values out. plan-kept (wishIn wish) marks values out;
+      write-line = write-kept;
+      read-line = λ text out. read-kept (lineOf text) out;
+    }
