@@ -1,3 +1,4 @@
 pub mod Record
 pub mod Wish
 pub mod Refusals
+pub mod Answers

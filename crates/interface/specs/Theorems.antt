@@ -1,21 +1,30 @@
 -- What is proved of the bytes of a record and of a wish, and of the calls: each theorem is a type here, and its proof stands in
 -- proofs/Theorems.
 -- Assumes nothing.
-use mathlib.Core.Bool.{true, cond, _||_}
-use mathlib.Core.List.{List}
+use mathlib.Core.Bool.{Bool, true, cond, not, _&&_, _||_}
+use mathlib.Core.List.{List, [], _∷_}
+use mathlib.Core.Logic.{_⊎_, _↔_}
 use mathlib.Core.Path.{_≡_}
 use Prim.Native.Nat.{ℕ, _%_}
-use lib.Dec.{eqb}
+use lib.Dec.{eqb, ltb}
+use lib.ListN.{length}
 use Rattle.controller.specs.declared.decision.Answer.{Answer}
 use Rattle.controller.specs.declared.«record».Record.{Record}
+use Rattle.controller.specs.Bus.{whole}
 use Rattle.controller.specs.Decision.{isRefusal, numberOf}
 use Rattle.controller.specs.Record.{sound}
+use Rattle.controller.specs.Rows.{Row, Given, resetRows, transferRows}
 use Rattle.controller.specs.Theorems.{left}
+use Rattle.glass.specs.Theorems.{pictureRows}
+use Rattle.lines.specs.Theorems.{Starts, writerRows}
 use Rattle.planner.specs.declared.wish.Wish.{Wish}
+use Rattle.planner.specs.Bus.{wanted}
+use Rattle.planner.specs.Wish.{isWish}
 use Rattle.interface.specs.declared.record_bytes.ReadRecord.{ReadRecord}
 use Rattle.interface.specs.declared.record_bytes.ReadRecord.the-variants.{Is, Broken}
+use Rattle.interface.specs.declared.wish_bytes.ReadWish.{ReadWish}
 use Rattle.interface.specs.declared.wish_bytes.ReadWish.the-variants as ReadWish
-use Rattle.interface.specs.ControllerCalls.{Call, refusal, resetCall, transferCall}
+use Rattle.interface.specs.ControllerCalls.{Call, isRecordLong, refusal, resetCall, transferCall}
 use Rattle.interface.specs.Filling.{Filling}
 use Rattle.interface.specs.LineCalls.{readCall, writeCall}
 use Rattle.interface.specs.PictureCalls.{pictureCall}
@@ -71,3 +80,46 @@ pub record CallRefusals : Type 0 where
   pub plan : (wish marks values out : List ℕ) → KeepsBuffer (planCall wish marks values out) out
   pub write-line : (kind byte wait : ℕ) (out : List ℕ) → KeepsBuffer (writeCall kind byte wait out) out
   pub read-line : (text out : List ℕ) → KeepsBuffer (readCall text out) out
+
+-- What is returned tells each number exactly where its row applies and none before it in the order.
+abbrev pub Tells : ℕ → List Row → Type 0
+Tells returned rows = (n : ℕ) → (answerIn returned ≡ n) ↔ Given n rows
+
+-- The rows of a call over a record's bytes: 1 where they say no record, else the rows of the record that they say.
+unfoldable pub rowsFrom : ReadRecord → (Record → List Row) → List Row
+rowsFrom Broken rows = record { number = 1; applies = true } ∷ []
+rowsFrom (Is rec) rows = rows rec
+
+-- The rows of `yaropesk_reset`: 1 where the record's bytes are not 24, then 2.
+unfoldable pub resetCallRows : List ℕ → List ℕ → List Row
+resetCallRows bytes mem = record { number = 1; applies = not (isRecordLong bytes) } ∷ resetRows mem
+
+-- Not a wish: bytes that say none, or a wish that is none with these marks.
+unfoldable pub notWish : ReadWish → List ℕ → Bool
+notWish ReadWish.Broken marks = true
+notWish (ReadWish.Is wish) marks = not (isWish wish marks)
+
+-- The rows of `yaropesk_plan`: 2, 13, 11.
+unfoldable pub planCallRows : ReadWish → List ℕ → List ℕ → List ℕ → List Row
+planCallRows read marks values out =
+    record { number = 2; applies = not (whole marks && whole values) }
+    ∷ record { number = 13; applies = notWish read marks }
+    ∷ record { number = 11; applies = ltb (length out) wanted }
+    ∷ []
+
+-- `yaropesk_read_line` tells 12 exactly where no line stands at the start of the text, and else 11 where the output is below six bytes.
+abbrev pub ReadTells : ℕ → List ℕ → List ℕ → Type 0
+ReadTells returned text out =
+    ((Starts text → ⊥) × (answerIn returned ≡ 12))
+    ⊎ (Starts text × Tells returned (record { number = 11; applies = ltb (length out) 6 } ∷ []))
+
+-- What each call answers.
+pub record CallAnswers : Type 0 where
+  pub reset : (bytes mem : List ℕ) → Tells (resetCall bytes mem .returned) (resetCallRows bytes mem)
+  pub transfer : (bytes mem : List ℕ) (kind byte wait : ℕ)
+      → Tells (transferCall bytes mem kind byte wait .returned) (rowsFrom (recordIn bytes) (λ rec. transferRows rec mem kind byte wait))
+  pub picture : (bytes mem : List ℕ) (columns lines lit : ℕ) (out : List ℕ)
+      → Tells (pictureCall bytes mem columns lines lit out .returned) (rowsFrom (recordIn bytes) (λ rec. pictureRows rec mem columns lines (length out)))
+  pub plan : (wish marks values out : List ℕ) → Tells (planCall wish marks values out .returned) (planCallRows (wishIn wish) marks values out)
+  pub write-line : (kind byte wait : ℕ) (out : List ℕ) → Tells (writeCall kind byte wait out .returned) (writerRows kind byte out)
+  pub read-line : (text out : List ℕ) → ReadTells (readCall text out .returned) text out

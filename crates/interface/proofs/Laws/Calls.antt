@@ -6,10 +6,11 @@ use mathlib.Core.Path.{_≡_, refl, ap, subst, _∙_}
 use Prim.Native.Nat.{ℕ, _+_, _*_}
 use lib.ListN.{length}
 use borrow.Author.Tests.{eqb-true}
+use Rattle.controller.specs.declared.decision.Answer.the-variants.{Done}
 use Rattle.controller.specs.declared.decision.Decision.{Decision}
 use Rattle.controller.specs.declared.decision.Outcome.{Outcome}
 use Rattle.controller.specs.declared.«record».Record.{Record}
-use Rattle.controller.specs.Bus.{decided, resetDecided}
+use Rattle.controller.specs.Bus.{decided, resetDecided, whole}
 use Rattle.controller.specs.Bus as Bus
 use Rattle.controller.specs.Decision.{numberOf, performed, outcomeOf}
 use Rattle.interface.specs.declared.record_bytes.ReadRecord.the-variants.{Is, Broken}
@@ -46,3 +47,8 @@ found-meets bytes mem kind byte wait rec found meets = rw found meets
 pub long : (bytes : List ℕ) → isRecordLong bytes ≡ true → length bytes ≡ 24
 unfolding isRecordLong
 long bytes is = eqb-true (length bytes) 24 is
+
+-- a reset of a whole memory is done
+pub reset-done : (rec : Record) (mem : List ℕ) → whole mem ≡ true → resetDecided rec mem .answer ≡ Done
+unfolding resetDecided
+reset-done rec mem is = rw is refl

@@ -37,6 +37,7 @@ use Rattle.interface.specs.PlanCalls.{planFrom, wishless}
 use Rattle.interface.specs.RecordBytes.{recordBytes, recordFrom, recordIn}
 use Rattle.interface.specs.Theorems.{CallRefusals, KeepsBuffer, KeepsMemory, Refuses, answerIn, bytesLeft}
 use Rattle.interface.specs.WishBytes.{wishIn}
+use Rattle.interface.proofs.Laws.Calls.{reset-done}
 use Rattle.interface.proofs.Laws.Read.{read-own}
 use Rattle.interface.proofs.Laws.Told.{answer-in, one-answer}
 
@@ -101,20 +102,15 @@ read-kept line out =
     (λ _. buffer-kept _ out (line .answer) (line .length) refl
     (λ r. absurd (not-done (line .answer) r (eqb-true (numberOf (line .answer)) 0 (not-false _ good))))))
 
--- a reset of a whole memory is no refusal
-reset-done : (rec : Record) (mem : List ℕ) → whole mem ≡ true → isRefusal (resetDecided rec mem .answer) ≡ false
-unfolding resetDecided isRefusal
-reset-done rec mem is = rw is refl
-
 reset-kept : (bytes mem : List ℕ) → KeepsMemory (resetCall bytes mem) mem (λ _. bytes)
-unfolding resetCall
+unfolding resetCall isRefusal
 reset-kept bytes mem =
     let P : Call → Type 0 = λ call. KeepsMemory call mem (λ _. bytes) in
     let d = resetDecided (recordFrom bytes) mem in
     cond-elim P (not (isRecordLong bytes)) _ _ (λ _. memory-kept _ mem _ Unsound 0 (omega arith) (λ _. (refl, refl, refl)))
     (λ _. cond-elim P (not (whole mem)) _ _ (λ _. memory-kept _ mem _ NotWhole 0 (omega arith) (λ _. (refl, refl, refl)))
     (λ is. memory-kept _ mem _ (d .answer) (d .byte) refl
-    (λ r. absurd (false≢true (sym (reset-done (recordFrom bytes) mem (not-false _ is)) ∙ r)))))
+    (λ r. absurd (false≢true (ap isRefusal (sym (reset-done (recordFrom bytes) mem (not-false _ is))) ∙ r)))))
 
 -- what a refusal leaves of a record, in its bytes
 left-bytes : (answer : Answer) (wait : ℕ) (rec : Record) (bytes : List ℕ) → recordBytes rec ≡ bytes
