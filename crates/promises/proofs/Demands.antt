@@ -15,6 +15,8 @@ use Rattle.controller.specs.Bus.{badTransfer}
 use Rattle.controller.specs.Decision.{numberOf}
 use Rattle.drawing.proofs.Theorems.{draw-answers, draw-refusals}
 use Rattle.glass.proofs.Theorems.{each-byte, later-stay, picture-answers, picture-refusals}
+use Rattle.interface.proofs.Theorems.Answers.{call-answers}
+use Rattle.interface.proofs.Theorems.Refusals.{call-refusals}
 use Rattle.lines.proofs.Theorems.One.{one-reading, writer-answers}
 use Rattle.lines.proofs.Theorems.Read.{reader-answers, read-writes-back}
 use Rattle.lines.proofs.Theorems.Written.{written-reads-back}
@@ -40,6 +42,7 @@ each-answer =
       writer = writer-answers;
       play = play-answers;
       draw = draw-answers;
+      c-calls = call-answers;
     }
 
 -- a call that writes no text where its number is not 0
@@ -78,6 +81,7 @@ demand-1 =
       texts = λ size text out. leaves _ out (wanting-nothing size text out);
       play = λ text out. leaves _ out (play-nothing text out);
       draw = draw-refusals;
+      c-calls = call-refusals;
     }
 
 pub demand-2 : Demand2

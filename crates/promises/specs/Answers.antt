@@ -3,6 +3,7 @@
 use Rattle.controller.specs.Theorems.{TransferAnswers, ResetAnswers}
 use Rattle.drawing.specs.Theorems.{DrawAnswers}
 use Rattle.glass.specs.Theorems.{PictureAnswers}
+use Rattle.interface.specs.Theorems.{CallAnswers}
 use Rattle.lines.specs.Theorems.{ReaderAnswers, WriterAnswers}
 use Rattle.planner.specs.Theorems.{PlanAnswers}
 use Rattle.player.specs.Theorems.{PlayAnswers}
@@ -16,3 +17,4 @@ pub record EachAnswer : Type 0 where
   pub writer : WriterAnswers
   pub play : PlayAnswers
   pub draw : DrawAnswers
+  pub c-calls : CallAnswers

@@ -13,6 +13,7 @@ use Rattle.controller.specs.Decision.{numberOf}
 use Rattle.controller.specs.Theorems.{TransferKeepsSound, ResetMakesSound, EffectsFit, TransferRefusals, ResetRefusals}
 use Rattle.drawing.specs.Theorems.{DrawRefusals}
 use Rattle.glass.specs.Theorems.{EachByte, LaterStay, PictureRefusals}
+use Rattle.interface.specs.Theorems.{CallRefusals}
 use Rattle.lines.specs.Theorems.{WrittenReadsBack, ReadWritesBack, OneReading}
 use Rattle.lines.specs.Writing.{Writing, Meets, wanting, lineWriting}
 use Rattle.lines.specs.declared.writer.Written.{Written}
@@ -30,7 +31,8 @@ LeavesBuffer w out =
 
 -- 1. Every call answers every input. Nothing has to be checked first; bad input gets a numbered refusal, and no refusal alters a
 -- memory cell or an output buffer. What it leaves in the controller's record is listed.
--- The loan call shares `decided` with `transfer`, and with it all that is said of refusals; `texts` speaks of rows and header.
+-- The loan call shares `decided` with `transfer`, and with it all that is said of refusals; `texts` speaks of rows and header,
+-- `c-calls` of the calls for C.
 pub record Demand1 : Type 0 where
   pub answers : EachDetermined
   pub numbers : EachAnswer
@@ -43,6 +45,7 @@ pub record Demand1 : Type 0 where
   pub texts : (size : ℕ) (text out : List ℕ) → LeavesBuffer (wanting size text out) out
   pub play : (text out : List ℕ) → LeavesBuffer (playing text out) out
   pub draw : DrawRefusals
+  pub c-calls : CallRefusals
 
 -- A transfer is taken wherever nothing refuses it: with a sound record, a whole memory, a kind and byte in order, and no need to
 -- wait, it comes to what the rules of halves and instructions say.
