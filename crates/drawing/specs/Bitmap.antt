@@ -10,6 +10,10 @@ use Rattle.drawing.specs.declared.grid.Size.{Size}
 use Rattle.drawing.specs.Grid.{lastX, lastY, isLit}
 use Rattle.drawing.specs.Numbers.{fourDigits}
 
+-- The length of the head.
+abbrev pub headLength : ℕ
+headLength = 13
+
 -- `P4`, the width and the height in pixels.
 unfoldable pub headFor : ℕ → ℕ → List ℕ
 headFor width height = 0x50 ∷ 0x34 ∷ newline ∷ (fourDigits width ++ (0x20 ∷ (fourDigits height ++ (newline ∷ []))))

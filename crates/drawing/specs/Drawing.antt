@@ -20,9 +20,9 @@ use Rattle.drawing.specs.declared.drawing.Form.the-variants.{Text, Bitma
 use Rattle.drawing.specs.declared.grid.Size.{Size}
 use Rattle.drawing.specs.Grid.{lastX, lastY}
 use Rattle.drawing.specs.Frame.{frameAt}
-use Rattle.drawing.specs.Bitmap.{bitmapHead, pixelsAt}
-use Rattle.drawing.specs.Listing.{listingAt}
-use Rattle.drawing.specs.State.{stateLine}
+use Rattle.drawing.specs.Bitmap.{bitmapHead, headLength, pixelsAt}
+use Rattle.drawing.specs.Listing.{legend, legendLength, listingAt, listingLength, listingWidth}
+use Rattle.drawing.specs.State.{stateLength, stateLine}
 
 -- A line of the frame: the grid's columns, one more for its edge, and the end of the line.
 unfoldable pub frameWidth : Size → ℕ
@@ -34,18 +34,19 @@ frameLength size = frameWidth size * (lastY size + 1)
 
 -- The head, and eight rows of pixels for each row of the grid.
 unfoldable pub bitmapLength : Size → ℕ
-bitmapLength size = 13 + (lastX size + 1) * ((lastY size + 1) * 8)
+bitmapLength size = headLength + (lastX size + 1) * ((lastY size + 1) * 8)
 
--- The bytes of a drawing: the state's line is 74 long, and the cells are nine lines of 75.
+-- The bytes of a drawing. Text and cells end with the state's line.
 unfoldable pub lengthOf : Form → Size → ℕ
-lengthOf Text size = frameLength size + 74
+lengthOf Text size = frameLength size + stateLength
 lengthOf Bitmap size = bitmapLength size
-lengthOf Cells size = 675 + 74
+lengthOf Cells size = legendLength + (listingLength + stateLength)
 
--- A byte of the line with the state, and of the bitmap's head.
+-- A byte of the line with the state.
 abbrev pub stateByte : Record → ℕ → ℕ
 stateByte rec place = getD (stateLine rec) place 0
 
+-- A byte of the bitmap's head.
 abbrev pub headByte : Size → ℕ → ℕ
 headByte size place = getD (bitmapHead size) place 0
 
@@ -58,12 +59,18 @@ textByte dots rec size place =
 -- The head, then the pixels row by row.
 unfoldable pub bitmapByte : List ℕ → Size → ℕ → ℕ
 bitmapByte dots size place =
-    cond (ltb place 13) (headByte size place) (pixelsAt dots size ((place - 13) % (lastX size + 1)) ((place - 13) / (lastX size + 1)))
+    cond (ltb place headLength) (headByte size place)
+    (pixelsAt dots size ((place - headLength) % (lastX size + 1)) ((place - headLength) / (lastX size + 1)))
 
 -- The cells line by line, then the state.
+unfoldable pub listingByte : List ℕ → Record → Size → ℕ → ℕ
+listingByte mem rec size place =
+    cond (ltb place listingLength) (listingAt mem (rec .function .n) (rec .shift) size (place % listingWidth) (place / listingWidth))
+    (stateByte rec (place - listingLength))
+
+-- The legend, then the listing.
 unfoldable pub cellsByte : List ℕ → Record → Size → ℕ → ℕ
-cellsByte mem rec size place =
-    cond (ltb place 675) (listingAt mem (rec .function .n) (rec .shift) size (place % 75) (place / 75)) (stateByte rec (place - 675))
+cellsByte mem rec size place = cond (ltb place legendLength) (getD legend place 0) (listingByte mem rec size (place - legendLength))
 
 -- The byte at a place of a drawing.
 unfoldable pub byteAt : Form → List ℕ → List ℕ → Record → Size → ℕ → ℕ
@@ -75,9 +82,13 @@ byteAt Cells dots mem rec size place = cellsByte mem rec size place
 abbrev pub sizeFor : Record → ℕ → ℕ → Size
 sizeFor rec columns lines = record { columns = columns; lines = lines; rows = height (rec .function) }
 
--- The picture that is drawn, taken into a buffer in which every picture has room.
+-- Every picture has room in so many bytes.
+abbrev pub pictureRoom : ℕ
+pictureRoom = 640
+
+-- The picture that is drawn, taken into such a buffer.
 abbrev pub dotsOf : Record → List ℕ → ℕ → ℕ → Bool → List ℕ
-dotsOf rec mem columns lines lit = output rec mem columns lines lit (replicate 640 0)
+dotsOf rec mem columns lines lit = output rec mem columns lines lit (replicate pictureRoom 0)
 
 -- The answer, the refusals in the order of the picture's: 1, 2, 10, 11. `room` is the length of the output.
 unfoldable pub answering : Form → Record → List ℕ → ℕ → ℕ → ℕ → Answer

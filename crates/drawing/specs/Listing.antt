@@ -2,7 +2,7 @@
 -- glass shows is marked `*`.
 -- Assumes nothing.
 use mathlib.Core.Bool.{Bool, cond, not, _&&_}
-use mathlib.Core.List.{List, [], _∷_, _++_}
+use mathlib.Core.List.{List, [], _∷_}
 use Prim.Native.Nat.{ℕ, _+_, _-_, _*_, _/_, _%_}
 use lib.Dec.{ltb, eqb}
 use lib.ListN.{getD}
@@ -57,3 +57,27 @@ listingAt mem n shift size x line =
     cond (eqb x 74) newline
     (cond (ltb x 10) (getD (labelFor line) x 0)
     (cellAt mem n shift size (line * 16 + (x - 10) / 4) ((x - 10) % 4)))
+
+-- A line of the listing: ten bytes of label, sixteen cells of four bytes, and a newline. There are nine.
+abbrev pub listingWidth : ℕ
+listingWidth = 75
+
+abbrev pub listingLength : ℕ
+listingLength = 9 * listingWidth
+
+-- What the marks mean: `display cells marked * are not on this glass`, and a newline.
+unfoldable pub legend : List ℕ
+legend =
+    0x64 ∷ 0x69 ∷ 0x73 ∷ 0x70 ∷ 0x6C ∷ 0x61 ∷ 0x79 ∷ 0x20
+    ∷ 0x63 ∷ 0x65 ∷ 0x6C ∷ 0x6C ∷ 0x73 ∷ 0x20
+    ∷ 0x6D ∷ 0x61 ∷ 0x72 ∷ 0x6B ∷ 0x65 ∷ 0x64 ∷ 0x20
+    ∷ 0x2A ∷ 0x20
+    ∷ 0x61 ∷ 0x72 ∷ 0x65 ∷ 0x20
+    ∷ 0x6E ∷ 0x6F ∷ 0x74 ∷ 0x20
+    ∷ 0x6F ∷ 0x6E ∷ 0x20
+    ∷ 0x74 ∷ 0x68 ∷ 0x69 ∷ 0x73 ∷ 0x20
+    ∷ 0x67 ∷ 0x6C ∷ 0x61 ∷ 0x73 ∷ 0x73 ∷ newline ∷ []
+
+-- The legend's length.
+abbrev pub legendLength : ℕ
+legendLength = 45

@@ -9,6 +9,7 @@ use Rattle.controller.specs.declared.«record».Half.{Half}
 use Rattle.controller.specs.declared.«record».Half.the-variants.{Empty, InstructionWrite, DataWrite, StatusRead, DataRead}
 use Rattle.controller.specs.declared.«record».Record.{Record}
 use Rattle.lines.specs.Digits.{digit, newline}
+use Rattle.lines.specs.Line.{letterOf}
 use Rattle.drawing.specs.Numbers.{twoWide, fiveWide}
 
 -- The lines that N drives: `2` or `1`.
@@ -40,10 +41,10 @@ readShown letter byte = letter ∷ 0x20 ∷ digit (byte / 16) ∷ digit (byte % 
 -- The half that waits: `none`, or the letter that session lines have for its kind, and what it holds.
 unfoldable pub halfShown : Half → List ℕ
 halfShown Empty = 0x6E ∷ 0x6F ∷ 0x6E ∷ 0x65 ∷ []
-halfShown (InstructionWrite high) = writeShown 0x49 high
-halfShown (DataWrite high) = writeShown 0x44 high
-halfShown (StatusRead byte) = readShown 0x53 byte
-halfShown (DataRead byte) = readShown 0x52 byte
+halfShown (InstructionWrite high) = writeShown (letterOf 0) high
+halfShown (DataWrite high) = writeShown (letterOf 1) high
+halfShown (StatusRead byte) = readShown (letterOf 2) byte
+halfShown (DataRead byte) = readShown (letterOf 3) byte
 
 -- `lines`, as it stands before its field.
 abbrev pub linesWord : List ℕ
@@ -68,6 +69,10 @@ busyWord = 0x20 ∷ 0x20 ∷ 0x62 ∷ 0x75 ∷ 0x73 ∷ 0x79 ∷ 0x20 ∷ []
 -- `half`, as it stands before its field.
 abbrev pub halfWord : List ℕ
 halfWord = 0x20 ∷ 0x20 ∷ 0x68 ∷ 0x61 ∷ 0x6C ∷ 0x66 ∷ 0x20 ∷ []
+
+-- The line's length.
+abbrev pub stateLength : ℕ
+stateLength = 74
 
 -- The whole line: lines, display, counter, shift, busy, half.
 unfoldable pub stateLine : Record → List ℕ

@@ -21,14 +21,14 @@ use Rattle.lines.specs.declared.writer.Written.{Written}
 use Rattle.drawing.specs.declared.drawing.Form.{Form}
 use Rattle.drawing.specs.Grid.{dotOf, isLit}
 use Rattle.drawing.specs.Listing.{isOnGlass}
-use Rattle.drawing.specs.Drawing.{Drawn, answering, dotsOf, lengthOf, sizeFor}
+use Rattle.drawing.specs.Drawing.{Drawn, answering, dotsOf, lengthOf, pictureRoom, sizeFor}
 
 -- Five columns of the grid for each column of the glass, and a row for each row of dots: the grid is lit where the picture's dot is,
 -- the dots counted from the left from 1.
 abbrev pub DotsInPlace : Type 0
 DotsInPlace =
     (rec : Record) (mem : List ℕ) (columns lines : ℕ) (lit : Bool) (line row column dot : ℕ)
-    → answered rec mem columns lines 640 ≡ Done
+    → answered rec mem columns lines pictureRoom ≡ Done
     → line < lines → row < height (rec .function) → column < columns → 1 ≤ dot → dot ≤ 5
     → isLit (dotsOf rec mem columns lines lit) (sizeFor rec columns lines) (column * 6 + dot) (line * (height (rec .function) + 1) + (row + 1))
     ≡ dotOf (dotsAt font rec mem lit line row column) dot

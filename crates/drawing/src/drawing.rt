@@ -7,7 +7,7 @@ ghost use lib.ListN.{length};
 ghost use Rattle.controller.specs.Decision.{numberOf};
 ghost use Rattle.controller.specs.Record.{sound};
 ghost use Rattle.glass.specs.Picture.{painted};
-ghost use Rattle.drawing.specs.Drawing.{Drawn, bitmapByte, bitmapLength, Taken, byteAt, cellsByte, frameLength, frameWidth, headByte, lengthOf, stateByte, textByte};
+ghost use Rattle.drawing.specs.Drawing.{Drawn, bitmapByte, bitmapLength, Taken, byteAt, cellsByte, frameLength, frameWidth, headByte, lengthOf, listingByte, stateByte, textByte};
 ghost use Rattle.drawing.specs.Grid.{Small};
 use crate::bitmap::bitmap_head;
 use crate::bitmap::pixels_at;
@@ -16,6 +16,7 @@ use crate::grid::Size;
 use crate::grid::byte_in;
 use crate::grid::last_x;
 use crate::grid::last_y;
+use crate::listing::legend_at;
 use crate::listing::listing_at;
 use crate::state::state_line;
 use controller::Answer;
@@ -24,6 +25,20 @@ use controller::number;
 use glass::picture;
 use glass::rows_of;
 use lines::Written;
+
+// The length of the bitmap's head.
+const HEAD: usize = 13;
+
+// The length of the state's line.
+const STATE: usize = 74;
+
+// A line of the listing, and the nine of them.
+const LISTING_WIDTH: usize = 75;
+
+const LISTING: usize = 675;
+
+// The length of what the marks mean.
+const LEGEND: usize = 45;
 
 // How a panel is drawn: its dots as text in a frame, or as a bitmap, or its cells listed.
 pub enum Form {
@@ -51,7 +66,7 @@ fn bitmap_length(size: Size) -> usize
     requires { ⌜ Small size ⌝ }
     ensures { λ r. ⌜ r ≡ bitmapLength size ⌝ }
 {
-    13 + (last_x(size) + 1) * ((last_y(size) + 1) * 8)
+    HEAD + (last_x(size) + 1) * ((last_y(size) + 1) * 8)
 }
 
 fn length_of(form: Form, size: Size) -> usize
@@ -59,9 +74,9 @@ fn length_of(form: Form, size: Size) -> usize
     ensures { λ r. ⌜ r ≡ lengthOf form size ⌝ }
 {
     match form {
-        Form::Text => frame_length(size) + 74,
+        Form::Text => frame_length(size) + STATE,
         Form::Bitmap => bitmap_length(size),
-        Form::Cells => 675 + 74,
+        Form::Cells => LEGEND + (LISTING + STATE),
     }
 }
 
@@ -102,24 +117,42 @@ fn bitmap_byte(dots: &[u8], size: Size, place: usize) -> u8
     requires { ⌜ (Small size) × (place < bitmapLength size) ⌝ }
     ensures { λ r. ⌜ r ≡ bitmapByte (now (dots .entry)) size place ⌝ }
 {
-    if place < 13 {
+    if place < HEAD {
         return head_byte(size, place);
     }
     let width = last_x(size) + 1;
-    pixels_at(dots, size, (place - 13) % width, (place - 13) / width)
+    pixels_at(dots, size, (place - HEAD) % width, (place - HEAD) / width)
 }
 
 // The cells line by line, then the state.
+fn listing_byte(memory: &[u8], rec: Record, size: Size, place: usize) -> u8
+    requires { ⌜ rec .shift < 80 ⌝ }
+    ensures { λ r. ⌜ r ≡ listingByte (now (memory .entry)) rec size place ⌝ }
+{
+    if place < LISTING {
+        let n = rec.function.n;
+        let shift = rec.shift as usize;
+        return listing_at(
+            memory,
+            n,
+            shift,
+            size,
+            place % LISTING_WIDTH,
+            place / LISTING_WIDTH,
+        );
+    }
+    state_byte(rec, place - LISTING)
+}
+
+// The legend, then the listing.
 fn cells_byte(memory: &[u8], rec: Record, size: Size, place: usize) -> u8
     requires { ⌜ rec .shift < 80 ⌝ }
     ensures { λ r. ⌜ r ≡ cellsByte (now (memory .entry)) rec size place ⌝ }
 {
-    if place < 675 {
-        let n = rec.function.n;
-        let shift = rec.shift as usize;
-        return listing_at(memory, n, shift, size, place % 75, place / 75);
+    if place < LEGEND {
+        return legend_at(place);
     }
-    state_byte(rec, place - 675)
+    listing_byte(memory, rec, size, place - LEGEND)
 }
 
 fn byte_at(form: Form, dots: &[u8], memory: &[u8], rec: Record, size: Size, place: usize) -> u8

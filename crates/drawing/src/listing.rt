@@ -2,8 +2,8 @@
 // glass shows is marked `*`.
 ghost use mathlib.Core.Path.{_≡_};
 ghost use Prim.Native.Nat.{_≤_, _<_};
-ghost use Rattle.drawing.specs.Grid.{Small};
-ghost use Rattle.drawing.specs.Listing.{cellAt, cellChar, displayLabel, isOnGlass, isSpare, isWithin, labelFor, listingAt, markFor, patternLabel};
+ghost use lib.ListN.{getD};
+ghost use Rattle.drawing.specs.Listing.{cellAt, cellChar, displayLabel, isOnGlass, isSpare, isWithin, labelFor, legend, listingAt, markFor, patternLabel};
 use crate::grid::Size;
 use crate::grid::byte_in;
 use crate::numbers::digit_for;
@@ -137,4 +137,11 @@ pub fn listing_at(memory: &[u8], n: bool, shift: usize, size: Size, x: usize, li
         line * 16 + (x - 10) / 4,
         (x - 10) % 4,
     )
+}
+
+// A byte of what the marks mean.
+pub fn legend_at(place: usize) -> u8
+    ensures { λ r. ⌜ r ≡ getD legend place 0 ⌝ }
+{
+    byte_in(b"display cells marked * are not on this glass\n", place)
 }

@@ -6,23 +6,19 @@ use borrow.Author.Needs.{needs}
 use Rattle.drawing.proofs.drawing.cells_byte.Statement.{statement}
 use Rattle.drawing.proofs.drawing.cells_byte.Tie as tie
 
-cast-shift : tie.Need-cast-shift
-cast-shift c = search needs
-
-listing-at-requires : tie.Need-listing-at-requires
-listing-at-requires c κs = search needs
+legend-at-requires : tie.Need-legend-at-requires
+legend-at-requires c κs = search needs
 
 returns : tie.Need-returns
 unfolding cellsByte
-returns c = simp (c .listing-at .ensures, lt-ltb _ _ (c .before .before .if1 .taken))
+returns c = simp (c .legend-at .ensures, lt-ltb _ _ (c .before .if1 .taken))
 
-state-byte-requires : tie.Need-state-byte-requires
-state-byte-requires c κs = search needs
+listing-byte-requires : tie.Need-listing-byte-requires
+listing-byte-requires c κs = search needs
 
 returns-2 : tie.Need-returns-2
 unfolding cellsByte
-returns-2 c = simp (c .state-byte .ensures, le-ltb _ _ (c .before .if1 .left))
+returns-2 c = simp (c .listing-byte .ensures, le-ltb _ _ (c .before .if1 .left))
 
 pub cells-byte-spec : {M : Type 1} → statement M
-cells-byte-spec =
-    tie.close (tie.spec cast-shift listing-at-requires returns state-byte-requires returns-2)
+cells-byte-spec = tie.close (tie.spec legend-at-requires returns listing-byte-requires returns-2)

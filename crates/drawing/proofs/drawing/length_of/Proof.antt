@@ -28,6 +28,9 @@ enum-told-3 c = search needs
 add-result-2 : tie.Need-add-result-2
 add-result-2 c = search needs
 
+add-result-3 : tie.Need-add-result-3
+add-result-3 c = search needs
+
 returns : tie.Need-returns
 unfolding lengthOf
 returns c = simp (c .frame-length .ensures, c .before .enum-told .given .1)
@@ -51,6 +54,7 @@ length-of-spec =
     bitmap-length-requires
     enum-told-3
     add-result-2
+    add-result-3
     returns
     returns-2
     returns-3)
