@@ -43,7 +43,7 @@ done
 # Words that cannot be followed: what is allowed is told on standard error, and nothing is drawn.
 echo 'glass: allowed are COLUMNS LINES, 1 to 40 and 1 or 2 (16 2 where none are given), and --pbm or --cells' > "$work/allowed"
 : > "$work/empty"
-for words in '0 1' '41 2' '16 0' '16 3' '16' '20 2 1' '-1 2' '1a 2' '016 2' 'x' '--bmp' '--pbm --cellss' '20 2 --cells --'; do
+for words in '0 1' '41 2' '16 0' '16 3' '16' '20 2 1' '-1 2' '1a 2' '016 2' 'x' '--bmp' '--pbm --cellss' '--pbm --cells' '--cells --cells' '20 2 --cells --'; do
     # shellcheck disable=SC2086
     timeout 20 "$program" $words < examples/hello.session > "$work/got" 2> "$work/errors"
     same "told of: $words" "$work/errors" "$work/allowed"
@@ -69,6 +69,9 @@ count 'the long session has 65,537 bytes' $?
 timeout 20 "$program" < "$work/long" > "$work/got"
 echo 'too long' > "$work/want"
 same '65,537 bytes' "$work/got" "$work/want"
+timeout 20 "$program" --pbm < "$work/long" > "$work/got" 2> "$work/errors"
+same '65,537 bytes beside a bitmap' "$work/errors" "$work/want"
+same '65,537 bytes: no bitmap' "$work/got" "$work/empty"
 
 # Closed standard input draws the panel after reset; closed output, a full disk and a pipe that nobody reads end the program.
 timeout 20 "$program" <&- > "$work/got"

@@ -59,20 +59,6 @@ fn tell_bad_line(form: Form, number: u64, answer: u8, busy: u32) {
     write_first(place, &row, written.length);
 }
 
-// What the marks of a listing mean.
-fn tell_marks(form: Form) {
-    match form {
-        Form::Text => {}
-        Form::Bitmap => {}
-        Form::Cells => {
-            io::write_all(
-                STDOUT_FILENO,
-                b"display cells marked * are not on this glass\n",
-            );
-        }
-    }
-}
-
 // Draws the panel in the lit phase; a size that no glass has is told with what is allowed.
 fn show(options: Options, standing: Standing) {
     let mut out = [0u8; OUTPUT];
@@ -93,7 +79,6 @@ fn show(options: Options, standing: Standing) {
         tell_usage();
         return;
     }
-    tell_marks(form);
     write_first(STDOUT_FILENO, &out, drawn.length);
 }
 
@@ -117,7 +102,8 @@ fn main() {
     let mut input = [0u8; INPUT];
     let length = io::read_full(STDIN_FILENO, &mut input);
     if LIMIT < length {
-        io::write_all(STDOUT_FILENO, b"too long\n");
+        let form = options.form;
+        io::write_all(place_for_words(form), b"too long\n");
         return;
     }
     play_and_show(options, &input[..length]);

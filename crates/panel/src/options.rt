@@ -80,9 +80,26 @@ fn with_number(options: Options, number: u8) -> Options {
     not_understood(options)
 }
 
+fn is_text(form: Form) -> bool {
+    match form {
+        Form::Text => true,
+        Form::Bitmap => false,
+        Form::Cells => false,
+    }
+}
+
+// Another form than text can be asked for once.
+fn with_form(options: Options, form: Form) -> Options {
+    let before = options.form;
+    if is_text(before) {
+        return Options { form, ..options };
+    }
+    not_understood(options)
+}
+
 fn with_word(options: Options, word: Word) -> Options {
     match word {
-        Word::Form(form) => Options { form, ..options },
+        Word::Form(form) => with_form(options, form),
         Word::Number(number) => with_number(options, number),
         Word::Unknown => not_understood(options),
     }
