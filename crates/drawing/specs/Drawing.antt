@@ -22,7 +22,7 @@ use Rattle.drawing.specs.Grid.{lastX, lastY}
 use Rattle.drawing.specs.Frame.{frameAt}
 use Rattle.drawing.specs.Bitmap.{bitmapHead, headLength, pixelsAt}
 use Rattle.drawing.specs.Listing.{legend, legendLength, listingAt, listingLength, listingWidth}
-use Rattle.drawing.specs.State.{stateLength, stateLine}
+use Rattle.drawing.specs.State.{stateByte, stateLength}
 
 -- A line of the frame: the grid's columns, one more for its edge, and the end of the line.
 unfoldable pub frameWidth : Size → ℕ
@@ -41,10 +41,6 @@ unfoldable pub lengthOf : Form → Size → ℕ
 lengthOf Text size = frameLength size + stateLength
 lengthOf Bitmap size = bitmapLength size
 lengthOf Cells size = legendLength + (listingLength + stateLength)
-
--- A byte of the line with the state.
-abbrev pub stateByte : Record → ℕ → ℕ
-stateByte rec place = getD (stateLine rec) place 0
 
 -- A byte of the bitmap's head.
 abbrev pub headByte : Size → ℕ → ℕ

@@ -3,6 +3,7 @@
 use mathlib.Core.Bool.{Bool, cond}
 use mathlib.Core.List.{List, [], _∷_, _++_}
 use Prim.Native.Nat.{ℕ, _/_, _%_}
+use lib.ListN.{getD}
 use Rattle.controller.specs.declared.cells.Counter.{Counter}
 use Rattle.controller.specs.declared.cells.Counter.the-variants.{Display, Pattern}
 use Rattle.controller.specs.declared.«record».Half.{Half}
@@ -70,16 +71,27 @@ busyWord = 0x20 ∷ 0x20 ∷ 0x62 ∷ 0x75 ∷ 0x73 ∷ 0x79 ∷ 0x20 ∷ []
 abbrev pub halfWord : List ℕ
 halfWord = 0x20 ∷ 0x20 ∷ 0x68 ∷ 0x61 ∷ 0x6C ∷ 0x66 ∷ 0x20 ∷ []
 
+-- The lines and the display.
+unfoldable pub shownFields : Record → List ℕ
+shownFields rec = linesWord ++ (linesShown (rec .function .n) ∷ (displayWord ++ onOff (rec .control .d)))
+
+-- The counter: its memory and its cell.
+unfoldable pub counterField : Counter → List ℕ
+counterField counter = counterWord ++ (memoryShown counter ++ (0x20 ∷ twoWide (cellOf counter)))
+
+-- The shift, the busy time and the half that waits.
+unfoldable pub lastFields : Record → List ℕ
+lastFields rec =
+    shiftWord ++ (twoWide (rec .shift) ++ (busyWord ++ (fiveWide (rec .busy) ++ (halfWord ++ (halfShown (rec .half) ++ (newline ∷ []))))))
+
+-- The whole line.
+unfoldable pub stateLine : Record → List ℕ
+stateLine rec = shownFields rec ++ (counterField (rec .counter) ++ lastFields rec)
+
 -- The line's length.
 abbrev pub stateLength : ℕ
 stateLength = 74
 
--- The whole line: lines, display, counter, shift, busy, half.
-unfoldable pub stateLine : Record → List ℕ
-stateLine rec =
-    linesWord ++ (linesShown (rec .function .n)
-    ∷ (displayWord ++ (onOff (rec .control .d)
-    ++ (counterWord ++ (memoryShown (rec .counter) ++ (0x20 ∷ (twoWide (cellOf (rec .counter))
-    ++ (shiftWord ++ (twoWide (rec .shift)
-    ++ (busyWord ++ (fiveWide (rec .busy)
-    ++ (halfWord ++ (halfShown (rec .half) ++ (newline ∷ []))))))))))))))
+-- A byte of the line.
+abbrev pub stateByte : Record → ℕ → ℕ
+stateByte rec place = getD (stateLine rec) place 0

@@ -7,7 +7,7 @@ ghost use lib.ListN.{length};
 ghost use Rattle.controller.specs.Decision.{numberOf};
 ghost use Rattle.controller.specs.Record.{sound};
 ghost use Rattle.glass.specs.Picture.{painted};
-ghost use Rattle.drawing.specs.Drawing.{Drawn, bitmapByte, bitmapLength, Taken, byteAt, cellsByte, frameLength, frameWidth, headByte, lengthOf, listingByte, stateByte, textByte};
+ghost use Rattle.drawing.specs.Drawing.{Drawn, bitmapByte, bitmapLength, Taken, byteAt, cellsByte, frameLength, frameWidth, headByte, lengthOf, listingByte, textByte};
 ghost use Rattle.drawing.specs.Grid.{Small};
 use crate::bitmap::bitmap_head;
 use crate::bitmap::pixels_at;
@@ -18,7 +18,7 @@ use crate::grid::last_x;
 use crate::grid::last_y;
 use crate::listing::legend_at;
 use crate::listing::listing_at;
-use crate::state::state_line;
+use crate::state::state_byte;
 use controller::Answer;
 use controller::Record;
 use controller::number;
@@ -78,14 +78,6 @@ fn length_of(form: Form, size: Size) -> usize
         Form::Bitmap => bitmap_length(size),
         Form::Cells => LEGEND + (LISTING + STATE),
     }
-}
-
-// A byte of the line with the state.
-fn state_byte(rec: Record, place: usize) -> u8
-    ensures { λ r. ⌜ r ≡ stateByte rec place ⌝ }
-{
-    let line = state_line(rec);
-    byte_in(&line, place)
 }
 
 // The frame line by line, then the state.

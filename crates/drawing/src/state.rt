@@ -1,6 +1,9 @@
 // One line with the state that a repairer asks for.
+ghost use mathlib.Core.List.{_++_};
 ghost use mathlib.Core.Path.{_≡_};
-ghost use Rattle.drawing.specs.State.{cellOf, halfShown, linesShown, memoryShown, onOff, readShown, stateLine, writeShown};
+ghost use lib.ListN.{getD};
+ghost use Rattle.drawing.specs.State.{cellOf, counterField, halfShown, lastFields, linesShown, memoryShown, onOff, readShown, shownFields, stateByte, writeShown};
+use crate::grid::byte_in;
 use crate::numbers::digit_for;
 use crate::numbers::four_wide;
 use crate::numbers::padded_digit;
@@ -76,43 +79,82 @@ fn lines_shown(n: bool) -> u8
     b'1'
 }
 
-// The state in fields of fixed places, so that two states can be compared one below the other.
-pub fn state_line(rec: Record) -> [u8; 74]
-    ensures { λ r. ⌜ r ≡ stateLine rec ⌝ }
+// The lines and the display.
+fn shown_fields(rec: Record) -> [u8; 20]
+    ensures { λ r. ⌜ r ≡ shownFields rec ⌝ }
 {
-    let counter = rec.counter;
-    let half = rec.half;
-    let busy = rec.busy as usize;
     let on = on_off(rec.control.d);
-    let name = memory_shown(counter);
-    let cell = two_wide(cell_of(counter) as usize);
-    let shift = two_wide(rec.shift as usize);
-    let low = four_wide(busy);
-    let waiting = half_shown(half);
-    let mut text = *b"lines 1  display off  counter display  0  shift  0  busy     0  half none\n";
+    let mut text = *b"lines 1  display off";
     text[6] = lines_shown(rec.function.n);
     text[17] = on[0];
     text[18] = on[1];
     text[19] = on[2];
-    text[30] = name[0];
-    text[31] = name[1];
-    text[32] = name[2];
-    text[33] = name[3];
-    text[34] = name[4];
-    text[35] = name[5];
-    text[36] = name[6];
-    text[38] = cell[0];
-    text[39] = cell[1];
-    text[48] = shift[0];
-    text[49] = shift[1];
-    text[57] = padded_digit(busy, 10_000);
-    text[58] = low[0];
-    text[59] = low[1];
-    text[60] = low[2];
-    text[61] = low[3];
-    text[69] = waiting[0];
-    text[70] = waiting[1];
-    text[71] = waiting[2];
-    text[72] = waiting[3];
     text
+}
+
+// The counter: its memory and its cell.
+fn counter_field(counter: Counter) -> [u8; 20]
+    ensures { λ r. ⌜ r ≡ counterField counter ⌝ }
+{
+    let name = memory_shown(counter);
+    let cell = two_wide(cell_of(counter) as usize);
+    let mut text = *b"  counter display  0";
+    text[10] = name[0];
+    text[11] = name[1];
+    text[12] = name[2];
+    text[13] = name[3];
+    text[14] = name[4];
+    text[15] = name[5];
+    text[16] = name[6];
+    text[18] = cell[0];
+    text[19] = cell[1];
+    text
+}
+
+// The shift, the busy time and the half that waits.
+fn last_fields(rec: Record) -> [u8; 34]
+    ensures { λ r. ⌜ r ≡ lastFields rec ⌝ }
+{
+    let half = rec.half;
+    let busy = rec.busy as usize;
+    let shift = two_wide(rec.shift as usize);
+    let low = four_wide(busy);
+    let waiting = half_shown(half);
+    let mut text = *b"  shift  0  busy     0  half none\n";
+    text[8] = shift[0];
+    text[9] = shift[1];
+    text[17] = padded_digit(busy, 10_000);
+    text[18] = low[0];
+    text[19] = low[1];
+    text[20] = low[2];
+    text[21] = low[3];
+    text[29] = waiting[0];
+    text[30] = waiting[1];
+    text[31] = waiting[2];
+    text[32] = waiting[3];
+    text
+}
+
+// A byte of the counter's field and of those after it.
+fn later_byte(rec: Record, place: usize) -> u8
+    ensures { λ r. ⌜ r ≡ getD (counterField (rec .counter) ++ lastFields rec) place 0 ⌝ }
+{
+    if place < 20 {
+        let counter = rec.counter;
+        let text = counter_field(counter);
+        return text[place];
+    }
+    let text = last_fields(rec);
+    byte_in(&text, place - 20)
+}
+
+// A byte of the state's line, whose fields stand at fixed places, so that two states can be compared one below the other.
+pub fn state_byte(rec: Record, place: usize) -> u8
+    ensures { λ r. ⌜ r ≡ stateByte rec place ⌝ }
+{
+    if place < 20 {
+        let text = shown_fields(rec);
+        return text[place];
+    }
+    later_byte(rec, place - 20)
 }

@@ -2,24 +2,21 @@
 -- Assumes nothing.
 use mathlib.Core.Bool.{Bool, true, false}
 use mathlib.Core.List.{List, [], _∷_, _++_}
-use mathlib.Core.Path.{_≡_, refl}
-use Prim.Native.Nat.{ℕ, _≤_, _<_}
+use mathlib.Core.Path.{_≡_, refl, sym, ap, _∙_}
+use Prim.Native.Nat.{ℕ, _+_, _-_, _≤_, _<_}
 use native.Mathlib.Omega.{arith}
-use lib.ListN.{length, getD}
+use lib.ListN.{length, getD, List·getD-append}
+use lib.Seq.{getD-append-add}
 use Rattle.controller.specs.Cells.{lineLength}
 use Rattle.controller.specs.declared.cells.Counter.{Counter}
 use Rattle.controller.specs.declared.cells.Counter.the-variants.{Display, Pattern}
 use Rattle.controller.specs.declared.«record».Half.{Half}
 use Rattle.controller.specs.declared.«record».Half.the-variants.{Empty, InstructionWrite, DataWrite, StatusRead, DataRead}
-use Rattle.drawing.specs.State.{onOff, memoryShown, halfShown, writeShown, readShown}
+use Rattle.controller.specs.declared.«record».Record.{Record}
+use Rattle.drawing.specs.Numbers.{twoWide}
+use Rattle.drawing.specs.State.{onOff, memoryShown, halfShown, writeShown, readShown, linesShown, linesWord, displayWord, shownFields, counterField}
 
 -- a field and what follows it, byte by byte
-pub on-off-bytes : (d : Bool) (rest : List ℕ)
-    → onOff d ++ rest ≡ getD (onOff d) 0 0 ∷ getD (onOff d) 1 0 ∷ getD (onOff d) 2 0 ∷ rest
-unfolding onOff
-on-off-bytes true rest = refl
-on-off-bytes false rest = refl
-
 pub memory-bytes : (counter : Counter) (rest : List ℕ)
     → memoryShown counter ++ rest
     ≡ getD (memoryShown counter) 0 0 ∷ getD (memoryShown counter) 1 0 ∷ getD (memoryShown counter) 2 0 ∷ getD (memoryShown counter) 3 0
@@ -36,6 +33,35 @@ half-bytes (InstructionWrite high) rest = refl
 half-bytes (DataWrite high) rest = refl
 half-bytes (StatusRead byte) rest = refl
 half-bytes (DataRead byte) rest = refl
+
+-- a field that ends a text
+pub on-off-is : (d : Bool) → (getD (onOff d) 0 0 ∷ getD (onOff d) 1 0 ∷ getD (onOff d) 2 0 ∷ []) ≡ onOff d
+unfolding onOff
+on-off-is true = refl
+on-off-is false = refl
+
+-- how long the fields are
+pub shown-length : (rec : Record) → length (shownFields rec) ≡ 20
+unfolding shownFields onOff
+shown-length rec = go (rec .control .d)
+  where
+    go : (d : Bool) → length (linesWord ++ (linesShown (rec .function .n) ∷ (displayWord ++ onOff d))) ≡ 20
+    go true = refl
+    go false = refl
+
+pub counter-length : (counter : Counter) → length (counterField counter) ≡ 20
+unfolding counterField memoryShown twoWide
+counter-length (Display cell) = refl
+counter-length (Pattern cell) = refl
+
+-- a byte of two texts, one behind the other: in the first, or in the second
+pub first-byte : (front back : List ℕ) (size place : ℕ) → length front ≡ size → place < size → getD front place 0 ≡ getD (front ++ back) place 0
+first-byte front back size place long inside = sym (List·getD-append front back 0 place (rw long inside))
+
+pub second-byte : (front back : List ℕ) (size place : ℕ) → length front ≡ size → size ≤ place → getD back (place - size) 0 ≡ getD (front ++ back) place 0
+second-byte front back size place long past =
+    let at : length front + (place - size) ≡ place = omega arith in
+    sym (getD-append-add front back (place - size) 0) ∙ ap (λ (k : ℕ). getD (front ++ back) k 0) at
 
 -- a line has some cells
 pub line-some : (n : Bool) → 0 < lineLength n
