@@ -12,7 +12,8 @@
  * write, 3 status read, 4 data read), 14 half's value (0 where none), 15 zero, 16 to 19 busy in microseconds,
  * little-endian, 20 to 23 zero. Any other length or value is an unsound record.
  * A memory is 144 bytes: display cells 0 to 79, then pattern cells 0 to 63.
- * A wish is 16 bytes: 0 N, 1 F, 2 D, 3 C, 4 B, 5 I/D, 6 S, 7 shift, 8 cursor's display cell, 9 to 15 zero.
+ * A wish is 16 bytes: 0 N, 1 F, 2 D, 3 C, 4 B, 5 I/D, 6 S, 7 shift (below 80, with N below 40), 8 cursor's display cell, 9
+ * to 15 zero. Any other length or value, and N with F, is answered 13.
  */
 #ifndef YAROPESK_H
 #define YAROPESK_H
@@ -32,22 +33,23 @@ uint32_t yaropesk_reset(uint8_t *record, size_t record_length, uint8_t *memory, 
 uint32_t yaropesk_transfer(uint8_t *record, size_t record_length, uint8_t *memory, size_t memory_length, uint8_t kind,
                            uint8_t byte, uint32_t wait);
 
-/* What a panel shows, five dots a byte, bit 4 leftmost. lit: the phase of the blinking, 0 dark, any other lit. Returns the
- * answer: 0, 1, 2, 10 or 11. */
+/* What a panel of 1 to 40 columns and 1 or 2 lines shows. The output is at least lines x 8 x columns bytes; its byte
+ * (line x 8 + row) x columns + column, each counted from 0, holds five dots, bit 4 leftmost. lit: the phase of the
+ * blinking, 0 dark, any other lit. Returns the answer: 0, 1, 2, 10 or 11. */
 uint32_t yaropesk_picture(const uint8_t *record, size_t record_length, const uint8_t *memory, size_t memory_length,
                           uint8_t columns, uint8_t lines, uint8_t lit, uint8_t *out, size_t out_length);
 
-/* The transfers that bring a panel into the wished state from any state: marks say which of the 144 cells to write, values
- * what to write there. Six bytes a transfer: kind, byte, wait little-endian. The output is at least 2,808 bytes. Returns
- * answer + 256 x transfers: 0, 2, 13 or 11. */
+/* The transfers that bring a panel into the wished state from any state: marks, 1 or 0, say which of the 144 cells to
+ * write, values what to write there. Six bytes a transfer: kind, byte, wait little-endian. The output is at least 2,808
+ * bytes. Returns answer + 256 x transfers: 0, 2, 13 (a mark above 1 too) or 11. */
 uint32_t yaropesk_plan(const uint8_t *wish, size_t wish_length, const uint8_t *marks, size_t marks_length,
                        const uint8_t *values, size_t values_length, uint8_t *out, size_t out_length);
 
 /* The session line of a transfer, into an output of at least 16 bytes. Returns answer + 256 x length: 0, 3 or 11. */
 uint32_t yaropesk_write_line(uint8_t kind, uint8_t byte, uint32_t wait, uint8_t *out, size_t out_length);
 
-/* The session line at the start of a text, as six bytes: kind, byte, wait little-endian. Returns answer + 256 x length of
- * the line: 0, 12 or 11. */
+/* The session line at the start of a text, into an output of at least six bytes, as six bytes: kind, byte, wait
+ * little-endian. Returns answer + 256 x length of the line: 0, 12 or 11. */
 uint32_t yaropesk_read_line(const uint8_t *text, size_t text_length, uint8_t *out, size_t out_length);
 
 #ifdef __cplusplus
