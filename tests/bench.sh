@@ -4,6 +4,7 @@
 set -eu
 root=$(cd "$(dirname "$0")/.." && pwd)
 cargo=$(command -v cargo || echo "${HOME:-}/.cargo/bin/cargo")
+[ -x "$cargo" ] || { echo "bench: the command cargo is needed" >&2; exit 1; }
 cd "$root"
 [ -x target/bin/session ] || rt check session
 [ -f target/staticlib/libinterface.a ] || rt staticlib interface

@@ -4,28 +4,11 @@
 # that are too long or closed.
 # Prints 'glass: N passed, M failed', and fails where M is not 0.
 set -u
-cd "$(dirname "$0")/.."
+cd "$(dirname "$0")/.." || exit 1
 program=target/bin/panel
-work=$(mktemp -d)
-trap 'rm -rf "$work"' EXIT
-passed=0
-failed=0
-
-# Counts a test by the status of the command before it.
-count() {
-    if [ "$2" -eq 0 ]; then
-        passed=$((passed + 1))
-    else
-        failed=$((failed + 1))
-        echo "glass: FAILED: $1"
-    fi
-}
-
-# Compares two files.
-same() {
-    cmp -s "$2" "$3"
-    count "$1" $?
-}
+suite=glass
+. tests/common.sh
+is_built "$program" panel
 
 for words in tests/glass/*.words; do
     name=$(basename "$words" .words)
@@ -91,5 +74,4 @@ case $(cat "$work/status") in
     *) count 'a closed pipe' 1 ;;
 esac
 
-echo "glass: $passed passed, $failed failed"
-[ "$failed" -eq 0 ]
+finish

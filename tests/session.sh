@@ -3,41 +3,22 @@
 # can show: long input, input in pieces, and standard input or output that is closed or full.
 # Prints 'session: N passed, M failed', and fails where M is not 0.
 set -u
-cd "$(dirname "$0")/.."
+cd "$(dirname "$0")/.." || exit 1
 program=target/bin/session
-work=$(mktemp -d)
-trap 'rm -rf "$work"' EXIT
-passed=0
-failed=0
-
-# Counts a test by the status of the command before it.
-count() {
-    if [ "$2" -eq 0 ]; then
-        passed=$((passed + 1))
-    else
-        failed=$((failed + 1))
-        echo "session: FAILED: $1"
-    fi
-}
-
-# Compares what was written with what must be.
-same() {
-    cmp -s "$work/got" "$work/want"
-    count "$1" $?
-}
+suite=session
+. tests/common.sh
+is_built "$program" session
 
 for input in tests/session/*.in; do
     name=$(basename "$input" .in)
     timeout 20 "$program" < "$input" > "$work/got"
-    cp "tests/session/$name.out" "$work/want"
-    same "$name"
+    same "$name" "$work/got" "tests/session/$name.out"
 done
 
 # Each example beside its report.
 for input in examples/*.session; do
     timeout 20 "$program" < "$input" > "$work/got"
-    cp "${input%.session}.report" "$work/want"
-    same "$input"
+    same "$input" "$work/got" "${input%.session}.report"
 done
 
 # 9,362 lines in 65,536 bytes: status reads at once after reset, and the last one after 100 microseconds.
@@ -99,5 +80,4 @@ awk 'BEGIN { print "no\tanswer\tbyte\tbusy"; for (i = 1; i < 9362; i++) print i 
 timeout 20 "$program" < "$work/full" | { sleep 0.3; cat; } > "$work/got"
 same 'a slow reader'
 
-echo "session: $passed passed, $failed failed"
-[ "$failed" -eq 0 ]
+finish
