@@ -28,6 +28,22 @@ same() {
     count "$1" $?
 }
 
+# A program and its words, on a file, into a pipe whose reader is gone before anything is written: it ends by itself, or by
+# the signal that the system sends then.
+closed_pipe() {
+    input=$1
+    shift
+    {
+        sleep 0.3
+        timeout 20 "$@" < "$input"
+        echo $? > "$work/status"
+    } | true
+    case $(cat "$work/status") in
+        0 | 141) count 'a closed pipe' 0 ;;
+        *) count 'a closed pipe' 1 ;;
+    esac
+}
+
 # The last line of a suite, and its status.
 finish() {
     echo "$suite: $passed passed, $failed failed"

@@ -34,6 +34,7 @@ for words in '0 1' '41 2' '16 0' '16 3' '16' '20 2 1' '-1 2' '1a 2' '016 2' 'x' 
 done
 timeout 20 "$program" '' < examples/hello.session > "$work/got" 2> "$work/errors"
 same 'told of an empty word' "$work/errors" "$work/allowed"
+same 'not drawn: an empty word' "$work/got" "$work/empty"
 
 # A bad line with a bitmap: the row stands on standard error, and the bitmap alone on standard output.
 timeout 20 "$program" 8 1 --pbm < tests/glass/bad_line.session > "$work/got" 2> "$work/errors"
@@ -65,13 +66,6 @@ if [ -c /dev/full ]; then
     timeout 20 "$program" < examples/hello.session > /dev/full
     count 'a full disk' $?
 fi
-{
-    timeout 20 "$program" 40 2 --pbm < examples/hello.session
-    echo $? > "$work/status"
-} | true
-case $(cat "$work/status") in
-    0 | 141) count 'a closed pipe' 0 ;;
-    *) count 'a closed pipe' 1 ;;
-esac
+closed_pipe examples/hello.session "$program" 40 2 --pbm
 
 finish

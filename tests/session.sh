@@ -65,15 +65,7 @@ if [ -c /dev/full ]; then
     count 'a full disk' $?
 fi
 
-# A pipe that nobody reads: it ends by itself, or by the signal that the system sends then.
-{
-    timeout 20 "$program" < "$work/full"
-    echo $? > "$work/status"
-} | true
-case $(cat "$work/status") in
-    0 | 141) count 'a closed pipe' 0 ;;
-    *) count 'a closed pipe' 1 ;;
-esac
+closed_pipe "$work/full" "$program"
 
 # A pipe that is read slowly gets the whole report.
 awk 'BEGIN { print "no\tanswer\tbyte\tbusy"; for (i = 1; i < 9362; i++) print i "\t0\t80\t10000"; print "9362\t0\t80\t9900" }' > "$work/want"
