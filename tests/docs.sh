@@ -1,0 +1,126 @@
+#!/bin/sh
+# Keeps the documents true: the files, programs, definitions and must-fail edits that README.md and docs/ name are there, and
+# every public function and every edit is named in them. Names are read from `code` and from indented commands.
+# Prints a line for each name that is missing, then 'docs: N names, M missing', and fails where M is not 0.
+set -u
+cd "$(dirname "$0")/.." || exit 1
+# One order of letters for sort and comm.
+export LC_ALL=C
+work=$(mktemp -d)
+trap 'rm -rf "$work"' EXIT
+names=0
+missing=0
+
+# Each line of the second file must be in the third; the first word says what is wrong with one that is not.
+all_in() {
+    sort -u "$2" > "$work/named"
+    sort -u "$3" > "$work/there"
+    comm -23 "$work/named" "$work/there" > "$work/lacking"
+    sed "s|^|docs: $1: |" "$work/lacking"
+    names=$((names + $(wc -l < "$work/named")))
+    missing=$((missing + $(wc -l < "$work/lacking")))
+}
+
+# What stands in backticks in these files, a span a line; a span may run over a line's end, and none over a paragraph's.
+spans() {
+    awk 'BEGIN { RS = "" } {
+        count = split($0, part, "`")
+        for (i = 2; i <= count; i += 2) { gsub(/[ \n]+/, " ", part[i]); print part[i] }
+    }' "$@"
+}
+
+# Those lines of standard input that are files or folders here, in a crate, or with NAME for a crate's name.
+existing() {
+    while read -r path; do
+        pattern=$(echo "$path" | sed 's/NAME/*/')
+        # shellcheck disable=SC2231
+        for found in $pattern crates/$pattern crates/*/$pattern; do
+            if [ -e "$found" ]; then
+                echo "$path"
+                break
+            fi
+        done
+    done
+}
+
+# --- Edits: a name in code behind "must-fail", or among what PROMISES.md lists as refused.
+grep -ohE 'must-fail `[^;|]*' docs/*.md | sed G | spans > "$work/edits_named"
+awk 'BEGIN { RS = "" } {
+    while (at = index($0, "**Refused.**")) {
+        $0 = substr($0, at + 12)
+        end = index($0, "\n- ")
+        print (end ? substr($0, 1, end) : $0) "\n"
+    }
+}' docs/PROMISES.md | spans >> "$work/edits_named"
+awk -F'|' '/^\| `yaropesk_/ { print $(NF - 1) "\n" }' docs/PROMISES.md | spans >> "$work/edits_named"
+for edit in crates/*/must-fail/*.edit; do
+    basename "$edit" .edit
+done > "$work/edits"
+spans docs/PROMISES.md docs/READING.md > "$work/spans"
+all_in 'no such must-fail edit' "$work/edits_named" "$work/edits"
+all_in 'a must-fail edit that PROMISES.md and READING.md do not name' "$work/edits" "$work/spans"
+
+# --- Paths: words with a slash. What is under target/ is built, and need not be there.
+{
+    spans README.md docs/*.md
+    sed -n 's/^    \([.a-z]\)/\1/p' README.md docs/*.md
+} | tr ' ' '\n' | grep -E '^[A-Za-z.][A-Za-z0-9_.*-]*/[A-Za-z0-9_.*/-]*$' | grep -v '^target/' > "$work/paths"
+sort -u "$work/paths" | existing > "$work/paths_there"
+all_in 'no such file or folder' "$work/paths" "$work/paths_there"
+for document in README.md docs/*.md examples/README.md rust/README.md; do
+    grep -oE '\]\([^):]+\)' "$document" | sed "s|^](\(.*\))|$(dirname "$document")/\1|"
+done > "$work/links"
+existing < "$work/links" > "$work/links_there"
+all_in 'a link to no file' "$work/links" "$work/links_there"
+
+# --- Programs; the crate `panel` is the program `glass`.
+grep -ohE '\./yaropesk [a-z_]+' README.md docs/*.md examples/README.md | sed 's/.* //' > "$work/programs_named"
+for main in crates/*/src/main.rt; do
+    basename "${main%/src/main.rt}" | sed 's/^panel$/glass/'
+done > "$work/programs"
+all_in 'no such program' "$work/programs_named" "$work/programs"
+
+# --- Public functions: each has its heading in PROMISES.md, or its row.
+sed -n 's/^pub use .*::\([a-z][a-z0-9_]*\);/\1/p' crates/*/src/lib.rt > "$work/functions"
+{
+    grep '^### ' docs/PROMISES.md | spans | sed 's/(.*//'
+    # shellcheck disable=SC2016
+    sed -n 's/^| `\([a-z_]*\)` |.*/\1/p' docs/PROMISES.md
+} > "$work/promised"
+all_in 'a public function without its promise in PROMISES.md' "$work/functions" "$work/promised"
+
+# --- Definitions: `Module.name` is defined in specs/Module.antt, `module::name` in src/module.rt of some crate.
+grep -E '^[A-Z][A-Za-z0-9]*\.[A-Za-z0-9]+$' "$work/spans" > "$work/definitions_named"
+awk '/^(unfoldable |abbrev )?pub / && !/^pub mod / {
+    module = FILENAME; sub(/.*\//, "", module); sub(/\.antt/, "", module)
+    for (i = 1; $i ~ /^(unfoldable|abbrev|pub|record|data)$/; i++) {}
+    print module "." $i
+}' crates/*/specs/*.antt > "$work/definitions"
+all_in 'no such definition' "$work/definitions_named" "$work/definitions"
+grep -E '^[a-z_]+::[a-z_]+$' "$work/spans" > "$work/code_named"
+awk '/^(pub )?fn / {
+    module = FILENAME; sub(/.*\//, "", module); sub(/\.rt/, "", module)
+    name = $0; sub(/^(pub )?fn /, "", name); sub(/[^a-z0-9_].*/, "", name)
+    print module "::" name
+}' crates/*/src/*.rt > "$work/code"
+# What is said of the kit's crates cannot be looked up here.
+sed -n 's/.*: //p' crates.txt | tr ' ' '\n' | sort -u | while read -r crate; do
+    [ -d "crates/$crate" ] || grep "^$crate::" "$work/code_named"
+done >> "$work/code"
+all_in 'no such function' "$work/code_named" "$work/code"
+
+# --- Single names: a word of some specs/ or src/, a proof, a crate, one of its files, or an edit. Words of one letter are those
+# of session lines.
+grep -E '^[A-Za-z][A-Za-z0-9_-]+$' "$work/spans" > "$work/words_named"
+{
+    grep -ohE '[A-Za-z][A-Za-z0-9_]*' crates/*/specs/*.antt crates/*/src/*.rt
+    grep -rohE '[a-z][a-z0-9]*(-[a-z0-9]+)+' crates/*/proofs
+    for path in crates/* crates/*/*; do
+        basename "$path"
+    done
+    cat "$work/edits"
+} > "$work/words"
+all_in 'no such name' "$work/words_named" "$work/words"
+
+echo "docs: $names names, $missing missing"
+[ "$missing" -eq 0 ]
