@@ -252,8 +252,27 @@ fn p12_plan_of_a_plain_wish() {
     assert!(out[18 * 6..].iter().all(|&byte| byte == 0xEE));
 }
 
-/// Plays a plan after reset: every transfer is done, and the panel stands as
-/// wished (decision 13).
+/// The record as wished, with the cursor's byte in the register (decision 13).
+fn wished_record(wish: &Wish, register: u8) -> Record {
+    Record {
+        width: 4,
+        n: wish.n,
+        f: wish.f,
+        d: wish.d,
+        c: wish.c,
+        b: wish.b,
+        id: wish.id,
+        s: wish.s,
+        shift: wish.shift,
+        counter: Counter::Display(wish.cursor),
+        register,
+        fresh: true,
+        half: Half::None,
+        busy: 40,
+    }
+}
+
+/// Plays a plan after reset: every transfer is done, and the panel stands as wished.
 fn play(wish: &Wish, marks: &[u8; MEMORY], values: &[u8; MEMORY]) -> usize {
     let mut out = [0; PLAN_BYTES];
     let (answer, count) = plan(wish, marks, values, &mut out);
@@ -270,30 +289,11 @@ fn play(wish: &Wish, marks: &[u8; MEMORY], values: &[u8; MEMORY]) -> usize {
         assert_eq!(bench.send(kind, byte, wait), (expected, 0x00), "record {i}");
     }
     for cell in 0..MEMORY {
-        let wished = if marks[cell] == 1 {
-            values[cell]
-        } else {
-            before[cell]
-        };
+        let wished = [before, *values][usize::from(marks[cell])][cell];
         assert_eq!(bench.mem[cell], wished, "cell {cell}");
     }
-    let expected = Record {
-        width: 4,
-        n: wish.n,
-        f: wish.f,
-        d: wish.d,
-        c: wish.c,
-        b: wish.b,
-        id: wish.id,
-        s: wish.s,
-        shift: wish.shift,
-        counter: Counter::Display(wish.cursor),
-        register: bench.mem[wish.cursor as usize],
-        fresh: true,
-        half: Half::None,
-        busy: 40,
-    };
-    assert_eq!(bench.rec, expected);
+    let register = bench.mem[wish.cursor as usize];
+    assert_eq!(bench.rec, wished_record(wish, register));
     count
 }
 

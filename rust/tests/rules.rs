@@ -21,70 +21,53 @@ fn font() -> [u8; FONT] {
 }
 
 fn unsound_records() -> Vec<Record> {
+    [unsound_fields(), unsound_halves()].concat()
+}
+
+fn unsound_fields() -> Vec<Record> {
     let (rec, _) = ready();
-    let four = Record { width: 4, ..rec };
+    let on = |counter| Record { counter, ..rec };
     vec![
         Record { width: 0, ..rec },
         Record { width: 5, ..rec },
         Record { shift: 80, ..rec },
-        Record {
-            counter: Counter::Display(80),
-            ..rec
-        },
-        Record {
-            counter: Counter::Pattern(64),
-            ..rec
-        },
+        on(Counter::Display(80)),
+        on(Counter::Pattern(64)),
         Record {
             busy: 10_001,
             ..rec
         },
-        Record {
-            half: Half::InstructionWrite(0),
-            ..rec
-        },
-        Record {
-            half: Half::DataWrite(0),
-            ..rec
-        },
-        Record {
-            half: Half::StatusRead(0),
-            ..rec
-        },
-        Record {
-            half: Half::DataRead(0),
-            ..rec
-        },
-        Record {
-            half: Half::InstructionWrite(0x10),
-            ..four
-        },
-        Record {
-            half: Half::DataWrite(0x10),
-            ..four
-        },
-        Record {
-            half: Half::InstructionWrite(0),
-            busy: 1,
-            ..four
-        },
-        Record {
-            half: Half::DataWrite(0),
-            busy: 1,
-            ..four
-        },
-        Record {
-            half: Half::DataRead(0),
-            busy: 1,
-            ..four
-        },
+    ]
+}
+
+/// Halves at width 8, halves of more than four bits, and halves while busy.
+fn unsound_halves() -> Vec<Record> {
+    let (rec, _) = ready();
+    let waiting = |width, half, busy| Record {
+        width,
+        half,
+        busy,
+        ..rec
+    };
+    vec![
+        waiting(8, Half::InstructionWrite(0), 0),
+        waiting(8, Half::DataWrite(0), 0),
+        waiting(8, Half::StatusRead(0), 0),
+        waiting(8, Half::DataRead(0), 0),
+        waiting(4, Half::InstructionWrite(0x10), 0),
+        waiting(4, Half::DataWrite(0x10), 0),
+        waiting(4, Half::InstructionWrite(0), 1),
+        waiting(4, Half::DataWrite(0), 1),
+        waiting(4, Half::DataRead(0), 1),
     ]
 }
 
 #[test]
-fn sound_and_unsound() {
+fn records_at_the_ends_of_their_ranges_are_sound() {
     let (rec, _) = ready();
     let four = Record { width: 4, ..rec };
+    let on = |counter| Record { counter, ..rec };
+    let waiting = |half, busy| Record { half, busy, ..four };
     for sound in [
         rec,
         four,
@@ -93,34 +76,19 @@ fn sound_and_unsound() {
             ..rec
         },
         Record { shift: 79, ..rec },
-        Record {
-            counter: Counter::Display(79),
-            ..rec
-        },
-        Record {
-            counter: Counter::Pattern(63),
-            ..rec
-        },
-        Record {
-            half: Half::InstructionWrite(0x0F),
-            ..four
-        },
-        Record {
-            half: Half::DataWrite(0x0F),
-            ..four
-        },
-        Record {
-            half: Half::DataRead(0xFF),
-            ..four
-        },
-        Record {
-            half: Half::StatusRead(0xFF),
-            busy: 10_000,
-            ..four
-        },
+        on(Counter::Display(79)),
+        on(Counter::Pattern(63)),
+        waiting(Half::InstructionWrite(0x0F), 0),
+        waiting(Half::DataWrite(0x0F), 0),
+        waiting(Half::DataRead(0xFF), 0),
+        waiting(Half::StatusRead(0xFF), 10_000),
     ] {
         assert!(is_sound(&sound), "{sound:?}");
     }
+}
+
+#[test]
+fn records_out_of_range_are_unsound() {
     for unsound in unsound_records() {
         assert!(!is_sound(&unsound), "{unsound:?}");
     }
@@ -245,10 +213,10 @@ fn an_address_without_a_cell_leaves_the_rest() {
     assert_eq!(same, mem);
 }
 
-#[test]
-fn instructions() {
-    let (rec, mem) = ready();
-    let set = Record {
+/// A record in which each field that an instruction could alter is not as after reset.
+fn set() -> Record {
+    let (rec, _) = ready();
+    Record {
         shift: 7,
         counter: Counter::Display(5),
         register: 0x99,
@@ -256,137 +224,133 @@ fn instructions() {
         id: false,
         s: true,
         ..rec
-    };
-    let after = |rec: Record, byte: u8| {
-        let mut mem = mem;
-        let (answer, returned, rec) = transfer(rec, &mut mem, INSTRUCTION_WRITE, byte, 0);
-        assert_eq!((answer, returned), (DONE, 0));
-        if byte == 0x01 {
-            assert_eq!(mem[..80], [0x20; 80]);
-        }
-        rec
-    };
-    let short = Record { busy: 40, ..set };
+    }
+}
+
+/// The same, busy for the shorter time.
+fn set_and_busy() -> Record {
+    Record { busy: 40, ..set() }
+}
+
+/// The record after an instruction that is done.
+fn after(rec: Record, byte: u8) -> Record {
+    let (_, mut mem) = ready();
+    let (answer, returned, rec) = transfer(rec, &mut mem, INSTRUCTION_WRITE, byte, 0);
+    assert_eq!((answer, returned), (DONE, 0));
+    rec
+}
+
+#[test]
+fn nothing_takes_its_time_alone() {
+    assert_eq!(after(set(), 0x00), set_and_busy());
+}
+
+#[test]
+fn clear_and_home_leave_the_entry_mode_alone() {
     let home = Record {
         shift: 0,
         counter: Counter::Display(0),
         fresh: false,
         busy: 1_640,
-        ..set
+        ..set()
     };
-    assert_eq!(after(set, 0x00), short);
-    // Clear leaves I/D alone.
     for byte in 0x01..=0x03 {
-        assert_eq!(after(set, byte), home);
+        for counter in [Counter::Display(5), Counter::Pattern(5)] {
+            assert_eq!(after(Record { counter, ..set() }, byte), home);
+        }
+    }
+}
+
+#[test]
+fn clear_blanks_the_display_cells_and_home_none() {
+    let (rec, mem) = ready();
+    let mut cleared = mem;
+    transfer(rec, &mut cleared, INSTRUCTION_WRITE, 0x01, 0);
+    assert_eq!(cleared[..80], [0x20; 80]);
+    assert_eq!(cleared[80..], mem[80..]);
+    let mut homed = mem;
+    transfer(rec, &mut homed, INSTRUCTION_WRITE, 0x02, 0);
+    assert_eq!(homed, mem);
+}
+
+#[test]
+fn entry_mode_and_display_control_set_their_bits() {
+    let short = set_and_busy();
+    for (byte, id, s) in [
+        (0x04, false, false),
+        (0x06, true, false),
+        (0x07, true, true),
+    ] {
+        assert_eq!(after(set(), byte), Record { id, s, ..short });
+    }
+    assert_eq!(after(set(), 0x0A), Record { c: true, ..short });
+    let blinking = Record {
+        d: true,
+        b: true,
+        ..short
+    };
+    assert_eq!(after(set(), 0x0D), blinking);
+}
+
+#[test]
+fn the_cursor_moves_around_both_ends_of_both_memories() {
+    let (_, mem) = ready();
+    let moved = |counter: Counter, byte: u8| {
+        let rec = after(Record { counter, ..set() }, byte);
+        assert_eq!(rec.shift, 7);
+        (rec.counter, rec.register, rec.fresh)
+    };
+    for (from, byte, to) in [(5, 0x13, 4), (5, 0x14, 6), (0, 0x10, 79), (79, 0x17, 0)] {
         assert_eq!(
-            after(
-                Record {
-                    counter: Counter::Pattern(5),
-                    ..set
-                },
-                byte
-            ),
-            home
+            moved(Counter::Display(from), byte),
+            (Counter::Display(to), mem[to as usize], true)
         );
     }
-    assert_eq!(
-        after(set, 0x04),
-        Record {
-            id: false,
-            s: false,
-            ..short
-        }
-    );
-    assert_eq!(
-        after(set, 0x06),
-        Record {
-            id: true,
-            s: false,
-            ..short
-        }
-    );
-    assert_eq!(
-        after(set, 0x07),
-        Record {
-            id: true,
-            s: true,
-            ..short
-        }
-    );
-    assert_eq!(after(set, 0x0A), Record { c: true, ..short });
-    assert_eq!(
-        after(set, 0x0D),
-        Record {
-            d: true,
-            b: true,
-            ..short
-        }
-    );
-    // The cursor moves: left, right, and around both ends of both memories.
-    let moved = |from: Counter, byte: u8| {
-        let rec = after(
-            Record {
-                counter: from,
-                ..set
-            },
-            byte,
+    for (from, byte, to) in [(0, 0x10, 63), (63, 0x14, 0)] {
+        assert_eq!(
+            moved(Counter::Pattern(from), byte),
+            (Counter::Pattern(to), 0x99, false)
         );
-        (rec.counter, rec.register, rec.fresh, rec.shift)
-    };
-    assert_eq!(
-        moved(Counter::Display(5), 0x13),
-        (Counter::Display(4), mem[4], true, 7)
-    );
-    assert_eq!(
-        moved(Counter::Display(5), 0x14),
-        (Counter::Display(6), mem[6], true, 7)
-    );
-    assert_eq!(
-        moved(Counter::Display(0), 0x10),
-        (Counter::Display(79), mem[79], true, 7)
-    );
-    assert_eq!(
-        moved(Counter::Display(79), 0x17),
-        (Counter::Display(0), mem[0], true, 7)
-    );
-    assert_eq!(
-        moved(Counter::Pattern(0), 0x10),
-        (Counter::Pattern(63), 0x99, false, 7)
-    );
-    assert_eq!(
-        moved(Counter::Pattern(63), 0x14),
-        (Counter::Pattern(0), 0x99, false, 7)
-    );
-    // The display shifts.
-    assert_eq!(after(set, 0x18), Record { shift: 8, ..short });
-    assert_eq!(after(set, 0x1F), Record { shift: 6, ..short });
-    assert_eq!(after(Record { shift: 79, ..set }, 0x18).shift, 0);
-    assert_eq!(after(Record { shift: 0, ..set }, 0x1C).shift, 79);
-    // Function Set; the counter stays on its cell.
-    assert_eq!(after(set, 0x20), Record { width: 4, ..short });
-    assert_eq!(
-        after(set, 0x3F),
-        Record {
-            n: true,
-            f: true,
-            ..short
-        }
-    );
-    // Addresses.
-    let patterned = Record {
-        counter: Counter::Pattern(0x3F),
-        register: mem[143],
+    }
+}
+
+#[test]
+fn the_display_shifts_modulo_80() {
+    let short = set_and_busy();
+    assert_eq!(after(set(), 0x18), Record { shift: 8, ..short });
+    assert_eq!(after(set(), 0x1F), Record { shift: 6, ..short });
+    let from = |shift: u8| Record { shift, ..set() };
+    assert_eq!(after(from(79), 0x18).shift, 0);
+    assert_eq!(after(from(0), 0x1C).shift, 79);
+}
+
+#[test]
+fn function_set_leaves_the_counter_on_its_cell() {
+    let short = set_and_busy();
+    assert_eq!(after(set(), 0x20), Record { width: 4, ..short });
+    let two_lines = Record {
+        n: true,
+        f: true,
         ..short
     };
-    assert_eq!(after(set, 0x7F), patterned);
-    let displayed = Record {
-        counter: Counter::Display(79),
-        register: mem[79],
-        ..short
+    assert_eq!(after(set(), 0x3F), two_lines);
+}
+
+#[test]
+fn addresses_set_the_counter_and_load_the_register() {
+    let (_, mem) = ready();
+    let loaded = |counter, register| Record {
+        counter,
+        register,
+        ..set_and_busy()
     };
-    assert_eq!(after(set, 0xCF), displayed);
-    let two = after(Record { n: true, ..set }, 0xC0);
-    assert_eq!((two.counter, two.register), (Counter::Display(40), mem[40]));
+    let last_pattern = loaded(Counter::Pattern(0x3F), mem[143]);
+    assert_eq!(after(set(), 0x7F), last_pattern);
+    let last_display = loaded(Counter::Display(79), mem[79]);
+    assert_eq!(after(set(), 0xCF), last_display);
+    let second_line = after(Record { n: true, ..set() }, 0xC0);
+    assert_eq!(second_line.counter, Counter::Display(40));
+    assert_eq!(second_line.register, mem[40]);
 }
 
 #[test]
@@ -425,65 +389,80 @@ fn data_writes_shift_and_data_reads_do_not() {
     }
 }
 
-#[test]
-fn reads_in_halves() {
-    let (rec, mut mem) = ready();
-    // The byte is taken at the first half, the effect comes at the second.
-    let four = Record {
+/// Width 4, with a fresh register.
+fn four_wires() -> Record {
+    let (rec, _) = ready();
+    Record {
         width: 4,
         register: 0x5A,
         fresh: true,
         ..rec
-    };
-    let (answer, byte, waiting) = transfer(four, &mut mem, DATA_READ, 0, 0);
+    }
+}
+
+#[test]
+fn a_read_takes_its_byte_at_the_first_half_and_its_effect_at_the_second() {
+    let (_, mut mem) = ready();
+    let (answer, byte, waiting) = transfer(four_wires(), &mut mem, DATA_READ, 0, 0);
     assert_eq!((answer, byte), (FIRST_HALF, 0x50));
+    let half = Half::DataRead(0x5A);
     assert_eq!(
         waiting,
         Record {
-            half: Half::DataRead(0x5A),
-            ..four
+            half,
+            ..four_wires()
         }
     );
     let (answer, byte, after) = transfer(waiting, &mut mem, DATA_READ, 0, 0);
     assert_eq!((answer, byte), (DONE, 0xA0));
-    let counter = Counter::Display(1);
-    let register = mem[1];
-    assert_eq!(
-        after,
-        Record {
-            counter,
-            register,
-            busy: 40,
-            ..four
-        }
-    );
-    // Crossed by a write: the low half comes back to it; stale wins over crossed.
-    let (answer, byte, _) = transfer(waiting, &mut mem, DATA_WRITE, 0xF0, 0);
-    assert_eq!((answer, byte), (CROSSED, 0xA0));
-    let stale = Record {
-        fresh: false,
-        ..waiting
+    let read = Record {
+        counter: Counter::Display(1),
+        register: mem[1],
+        busy: 40,
+        ..four_wires()
     };
-    let (answer, byte, _) = transfer(stale, &mut mem, DATA_WRITE, 0xF0, 0);
-    assert_eq!((answer, byte), (STALE, 0xA0));
-    // A status half with busy above 0 is completed by any kind.
+    assert_eq!(after, read);
+}
+
+#[test]
+fn a_read_crossed_by_a_write_gives_it_the_low_half_and_stale_wins_over_crossed() {
+    let (_, mut mem) = ready();
+    for (fresh, expected) in [(true, CROSSED), (false, STALE)] {
+        let waiting = Record {
+            half: Half::DataRead(0x5A),
+            fresh,
+            ..four_wires()
+        };
+        let (answer, byte, _) = transfer(waiting, &mut mem, DATA_WRITE, 0xF0, 0);
+        assert_eq!((answer, byte), (expected, 0xA0));
+    }
+}
+
+#[test]
+fn a_status_half_is_completed_by_any_kind_while_busy() {
+    let (_, mut mem) = ready();
     let status = Record {
         half: Half::StatusRead(0x85),
         busy: 700,
-        ..four
+        ..four_wires()
+    };
+    let left = Record {
+        busy: 600,
+        ..four_wires()
     };
     for kind in [INSTRUCTION_WRITE, DATA_WRITE, STATUS_READ, DATA_READ] {
-        let (answer, byte, after) = transfer(status, &mut mem, kind, 0, 100);
-        assert_eq!(
-            (answer, byte),
-            (if kind == STATUS_READ { DONE } else { CROSSED }, 0x50)
-        );
-        assert_eq!(after, Record { busy: 600, ..four });
+        let answer = if kind == STATUS_READ { DONE } else { CROSSED };
+        let outcome = transfer(status, &mut mem, kind, 0, 100);
+        assert_eq!(outcome, (answer, 0x50, left));
     }
-    // A write first, crossed by a read: 0h is the low half, byte 00h comes back.
+}
+
+#[test]
+fn a_write_crossed_by_a_read_has_0h_for_its_low_half_and_returns_00h() {
+    let (_, mut mem) = ready();
     let write = Record {
         half: Half::DataWrite(0x4),
-        ..four
+        ..four_wires()
     };
     let (answer, byte, _) = transfer(write, &mut mem, STATUS_READ, 0, 0);
     assert_eq!((answer, byte, mem[0]), (CROSSED, 0x00, 0x40));
@@ -523,57 +502,83 @@ fn picture_refuses() {
     assert_eq!(out[256..], [0xEE; 384]);
 }
 
-#[test]
-fn picture_draws_cursor_and_lines() {
-    let (rec, mem) = ready();
-    let font = font();
-    let on = Record {
+/// Two lines that are on, and the counter on the second cell of the second.
+fn two_lines() -> Record {
+    let (rec, _) = ready();
+    Record {
         d: true,
         f: true,
         n: true,
-        c: true,
         counter: Counter::Display(41),
         ..rec
-    };
-    let mut out = [0xEE; 32];
-    assert_eq!(picture(&on, &mem, 2, 2, true, &mut out, &font), DONE);
-    for line in 0..2 {
-        for row in 0..8 {
-            for column in 0..2 {
-                let code = mem[line * 40 + column] as usize;
-                let cursor = line == 1 && column == 1 && row == 7;
-                let expected = if cursor { 0x1F } else { font[code * 8 + row] };
-                assert_eq!(out[(line * 8 + row) * 2 + column], expected);
-            }
-        }
     }
-    // The lit phase fills the place; the unlit does not; C alone is the last row.
-    let blink = Record {
-        c: false,
+}
+
+/// A picture of two columns and two lines.
+fn two_by_two(rec: &Record, lit: bool) -> [u8; 32] {
+    let (_, mem) = ready();
+    let mut out = [0xEE; 32];
+    assert_eq!(picture(rec, &mem, 2, 2, lit, &mut out, &font()), DONE);
+    out
+}
+
+/// The eight rows at the second position of the second line.
+fn last_place(rec: &Record, lit: bool) -> Vec<u8> {
+    let out = two_by_two(rec, lit);
+    (0..8).map(|row| out[(8 + row) * 2 + 1]).collect()
+}
+
+/// The shape that stands there.
+fn last_shape() -> Vec<u8> {
+    let (_, mem) = ready();
+    font()[mem[41] as usize * 8..][..8].to_vec()
+}
+
+#[test]
+fn each_position_shows_its_cell_and_the_cursor_its_last_row() {
+    let (_, mem) = ready();
+    let with_cursor = Record {
+        c: true,
+        ..two_lines()
+    };
+    let out = two_by_two(&with_cursor, true);
+    for (at, &dots) in out.iter().enumerate() {
+        let (line, row, column) = (at / 16, at / 2 % 8, at % 2);
+        let code = mem[line * 40 + column] as usize;
+        let cursor = (line, row, column) == (1, 7, 1);
+        let expected = if cursor { 0x1F } else { font()[code * 8 + row] };
+        assert_eq!(dots, expected, "line {line}, row {row}, column {column}");
+    }
+}
+
+#[test]
+fn the_blinking_place_is_full_in_the_lit_phase_alone() {
+    let blinking = Record {
         b: true,
-        ..on
+        ..two_lines()
     };
-    let place = |rec: &Record, lit: bool| {
-        let mut out = [0; 32];
-        assert_eq!(picture(rec, &mem, 2, 2, lit, &mut out, &font), DONE);
-        (0..8)
-            .map(|row| out[(8 + row) * 2 + 1])
-            .collect::<Vec<u8>>()
+    assert_eq!(last_place(&blinking, true), [0x1F; 8]);
+    assert_eq!(last_place(&blinking, false), last_shape());
+}
+
+#[test]
+fn one_line_driven_leaves_the_second_dark() {
+    let one_line = Record {
+        n: false,
+        b: true,
+        ..two_lines()
     };
-    assert_eq!(place(&blink, true), vec![0x1F; 8]);
-    assert_eq!(
-        place(&blink, false),
-        font[mem[41] as usize * 8..][..8].to_vec()
-    );
-    // N=0 does not drive line 2.
-    let one = Record { n: false, ..blink };
-    assert_eq!(place(&one, true), vec![0; 8]);
-    // A pattern cell of the same number is no cursor.
-    let pattern = Record {
+    assert_eq!(last_place(&one_line, true), [0; 8]);
+}
+
+#[test]
+fn a_counter_on_a_pattern_cell_is_no_cursor() {
+    let on_pattern = Record {
         counter: Counter::Pattern(41),
-        ..blink
+        b: true,
+        ..two_lines()
     };
-    assert_eq!(place(&pattern, true), place(&blink, false));
+    assert_eq!(last_place(&on_pattern, true), last_shape());
 }
 
 fn wish() -> Wish {
@@ -590,22 +595,14 @@ fn wish() -> Wish {
     }
 }
 
-#[test]
-fn plan_refuses() {
-    let marks = [0; MEMORY];
-    let mut out = [0xEE; PLAN_BYTES];
-    let bad = Wish {
-        n: true,
-        f: true,
-        ..wish()
-    };
-    let mut short = [0xEE; PLAN_BYTES - 1];
-    for (m, v) in [(143, 144), (144, 143), (0, 0), (145, 144)] {
-        let (m, v) = (vec![2; m], vec![0; v]);
-        assert_eq!(plan(&bad, &m, &v, &mut short), (WRONG_LENGTH, 0));
-    }
-    for bad in [
-        bad,
+/// What is refused of the wish alone.
+fn not_wishes() -> [Wish; 4] {
+    [
+        Wish {
+            n: true,
+            f: true,
+            ..wish()
+        },
         Wish {
             shift: 80,
             ..wish()
@@ -619,17 +616,42 @@ fn plan_refuses() {
             cursor: 80,
             ..wish()
         },
-    ] {
-        assert_eq!(plan(&bad, &marks, &marks, &mut short), (NOT_A_WISH, 0));
-        assert_eq!(plan(&bad, &marks, &marks, &mut out), (NOT_A_WISH, 0));
+    ]
+}
+
+#[test]
+fn plan_refuses_lengths_before_wishes() {
+    let mut short = [0xEE; PLAN_BYTES - 1];
+    for (marks, values) in [(143, 144), (144, 143), (0, 0), (145, 144)] {
+        let (marks, values) = (vec![2; marks], vec![0; values]);
+        let refused = plan(&not_wishes()[0], &marks, &values, &mut short);
+        assert_eq!(refused, (WRONG_LENGTH, 0));
     }
-    for cell in [0, 79, 80, 143] {
-        let mut two = marks;
-        two[cell] = 2;
-        assert_eq!(plan(&wish(), &two, &marks, &mut out), (NOT_A_WISH, 0));
+    assert_eq!(short, [0xEE; PLAN_BYTES - 1]);
+}
+
+#[test]
+fn plan_refuses_what_is_not_a_wish_before_a_short_output() {
+    let marks = [0; MEMORY];
+    for length in [PLAN_BYTES, PLAN_BYTES - 1] {
+        let mut out = vec![0xEE; length];
+        for bad in not_wishes() {
+            assert_eq!(plan(&bad, &marks, &marks, &mut out), (NOT_A_WISH, 0));
+        }
+        for cell in [0, 79, 80, 143] {
+            let mut two = marks;
+            two[cell] = 2;
+            assert_eq!(plan(&wish(), &two, &marks, &mut out), (NOT_A_WISH, 0));
+        }
+        assert_eq!(out, vec![0xEE; length]);
     }
+}
+
+#[test]
+fn plan_refuses_a_short_output() {
+    let marks = [0; MEMORY];
+    let mut short = [0xEE; PLAN_BYTES - 1];
     assert_eq!(plan(&wish(), &marks, &marks, &mut short), (TOO_SHORT, 0));
-    assert_eq!(out, [0xEE; PLAN_BYTES]);
     assert_eq!(short, [0xEE; PLAN_BYTES - 1]);
 }
 
