@@ -1,6 +1,6 @@
 //! The rules of document 01 (`01-scope.md`) in plain Rust.
 //!
-//! Written from the documents alone, without a look at the proved implementation.
+//! Written from the documents alone, apart from the proved code.
 //! Sentences in quotation marks are those of document 01; "decision n" is the
 //! n-th of the readings already taken. Time is whole microseconds.
 //!
