@@ -9,6 +9,7 @@ pub mod font;
 pub mod library;
 pub mod model;
 pub mod options;
+pub mod programs;
 pub mod random_calls;
 pub mod random_lines;
 pub mod random_texts;

@@ -11,7 +11,7 @@
 //! model's place, and the exit is 1 once it is found out; `--wrong=all` tries each, and
 //! the exit is 0 if all were found out.
 
-use yaropesk_model::calls::{answer_of, Model};
+use yaropesk_model::calls::{answer_of, Model, MODEL};
 use yaropesk_model::case::{Case, Function, Outcome, FUNCTIONS};
 use yaropesk_model::chance::Chance;
 use yaropesk_model::demand::Trial;
@@ -166,7 +166,7 @@ fn compare(model: Model, seed: u64, calls: u64) -> bool {
 }
 
 fn main() {
-    let options = Options::read("compare_calls [SEED] [CALLS]", wrong::of_calls());
+    let options = Options::read("compare_calls [SEED] [CALLS]", MODEL, wrong::of_calls());
     if options.plain.len() > 2 {
         options.refuse();
     }

@@ -10,113 +10,33 @@
 //! difference must come (exit 1). `--wrong=all` tries every wrong model; there the
 //! exit is 0 if each was found out that can be, and 1 if one was not.
 
-use std::io::{Read, Write};
-use std::process::{exit, Command, Stdio};
-use std::thread;
-
-use yaropesk_model::calls::Model;
+use yaropesk_model::calls::{Model, MODEL};
 use yaropesk_model::model;
 use yaropesk_model::options::Options;
+use yaropesk_model::programs::{run, show, shrink};
 use yaropesk_model::random_texts::random_text;
 use yaropesk_model::wrong;
 
 const DEFAULT_SEED: u64 = 44_780;
 const DEFAULT_TEXTS: u64 = 2_000;
 
-/// Runs the program on a text: what it printed, and how it ended if not well.
-fn run(program: &str, text: &[u8]) -> (Vec<u8>, Option<String>) {
-    let spawned = Command::new(program)
-        .stdin(Stdio::piped())
-        .stdout(Stdio::piped())
-        .stderr(Stdio::null())
-        .spawn();
-    let mut child = match spawned {
-        Ok(child) => child,
-        Err(error) => {
-            eprintln!("cannot start {program}: {error}");
-            exit(2);
-        }
-    };
-    let mut input = child.stdin.take().expect("standard input is piped");
-    let mut output = child.stdout.take().expect("standard output is piped");
-    let mut printed = Vec::new();
-    thread::scope(|scope| {
-        // The program may stop reading before the end: a broken pipe is no fault.
-        scope.spawn(move || {
-            let _ = input.write_all(text);
-        });
-        let _ = output.read_to_end(&mut printed);
-    });
-    let ended = match child.wait() {
-        Ok(status) if status.success() => None,
-        Ok(status) => Some(status.to_string()),
-        Err(error) => Some(error.to_string()),
-    };
-    (printed, ended)
-}
-
 fn session(model: Model, text: &[u8]) -> Vec<u8> {
     model::session_with(text, model.read_line, model.transfer)
 }
 
 fn differs(program: &str, model: Model, text: &[u8]) -> bool {
-    let (printed, ended) = run(program, text);
-    ended.is_some() || printed != session(model, text)
-}
-
-/// The lines of a text, each with its newline.
-fn split(text: &[u8]) -> Vec<Vec<u8>> {
-    text.split_inclusive(|&byte| byte == b'\n')
-        .map(|line| line.to_vec())
-        .collect()
-}
-
-/// Drops lines, many at a time and then one by one, while the difference stays.
-fn shrink(program: &str, model: Model, text: &[u8]) -> Vec<u8> {
-    let mut lines = split(text);
-    let mut size = (lines.len() / 2).max(1);
-    loop {
-        let mut dropped = false;
-        let mut at = 0;
-        while at < lines.len() {
-            let mut fewer = lines.clone();
-            fewer.drain(at..(at + size).min(lines.len()));
-            if differs(program, model, &fewer.concat()) {
-                lines = fewer;
-                dropped = true;
-            } else {
-                at += size;
-            }
-        }
-        if size > 1 {
-            size /= 2;
-        } else if !dropped {
-            return lines.concat();
-        }
-    }
-}
-
-fn show(title: &str, bytes: &[u8]) {
-    println!("{title} ({} bytes):", bytes.len());
-    const MOST: usize = 4_000;
-    for line in split(&bytes[..bytes.len().min(MOST)]) {
-        println!("  {}", line.escape_ascii());
-    }
-    if bytes.len() > MOST {
-        println!("  ...");
-    }
+    let ran = run(program, &[], text);
+    ran.ended.is_some() || !ran.errors.is_empty() || ran.output != session(model, text)
 }
 
 /// Shows the shortest text on which program and model differ.
 fn show_difference(program: &str, model: Model, text: &[u8]) {
-    let short = shrink(program, model, text);
-    let (printed, ended) = run(program, &short);
+    let short = shrink(text, |text| differs(program, model, text));
+    let ran = run(program, &[], &short);
     show("shortest text", &short);
-    show("the program prints", &printed);
+    show("the program prints", &ran.output);
     show("the model prints", &session(model, &short));
-    if let Some(ended) = ended {
-        println!("the program ended with {ended}");
-    }
+    ran.show_faults();
 }
 
 /// Compares on so many texts; true when a difference was found (and shown).
@@ -162,7 +82,7 @@ fn count_answers(report: &[u8], answers: &mut [u64; 16]) {
 
 fn main() {
     let usage = "compare_sessions PROGRAM [SEED] [TEXTS]";
-    let options = Options::read(usage, wrong::of_sessions());
+    let options = Options::read(usage, MODEL, wrong::of_sessions());
     let (Some(program), 1..=3) = (options.plain.first(), options.plain.len()) else {
         options.refuse();
     };

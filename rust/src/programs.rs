@@ -1,0 +1,105 @@
+//! A program run on a text, texts that are made shorter, and both shown.
+
+use std::io::{Read, Write};
+use std::process::{exit, Command, Stdio};
+use std::thread;
+
+/// What a program wrote, and how it ended if not well.
+#[derive(Debug, PartialEq, Eq)]
+pub struct Ran {
+    pub output: Vec<u8>,
+    pub errors: Vec<u8>,
+    pub ended: Option<String>,
+}
+
+impl Ran {
+    /// Shows what it wrote to standard error and how it ended, where that is not well.
+    pub fn show_faults(&self) {
+        if !self.errors.is_empty() {
+            show("the program's standard error", &self.errors);
+        }
+        if let Some(ended) = &self.ended {
+            println!("the program ended with {ended}");
+        }
+    }
+}
+
+/// Runs a program with these words on a text.
+pub fn run(program: &str, words: &[String], text: &[u8]) -> Ran {
+    let spawned = Command::new(program)
+        .args(words)
+        .stdin(Stdio::piped())
+        .stdout(Stdio::piped())
+        .stderr(Stdio::piped())
+        .spawn();
+    let mut child = spawned.unwrap_or_else(|error| {
+        eprintln!("cannot start {program}: {error}");
+        exit(2)
+    });
+    let mut input = child.stdin.take().expect("standard input is piped");
+    let mut output = child.stdout.take().expect("standard output is piped");
+    let mut error = child.stderr.take().expect("standard error is piped");
+    let (mut printed, mut errors) = (Vec::new(), Vec::new());
+    thread::scope(|scope| {
+        // The program may stop reading before the end: a broken pipe is no fault.
+        scope.spawn(move || {
+            let _ = input.write_all(text);
+        });
+        scope.spawn(|| error.read_to_end(&mut errors));
+        let _ = output.read_to_end(&mut printed);
+    });
+    let ended = match child.wait() {
+        Ok(status) if status.success() => None,
+        Ok(status) => Some(status.to_string()),
+        Err(error) => Some(error.to_string()),
+    };
+    Ran {
+        output: printed,
+        errors,
+        ended,
+    }
+}
+
+/// The lines of a text, each with its newline.
+fn split(text: &[u8]) -> Vec<Vec<u8>> {
+    text.split_inclusive(|&byte| byte == b'\n')
+        .map(|line| line.to_vec())
+        .collect()
+}
+
+/// Drops lines, many at a time and then one by one, while the difference stays.
+pub fn shrink(text: &[u8], differs: impl Fn(&[u8]) -> bool) -> Vec<u8> {
+    let mut lines = split(text);
+    let mut size = (lines.len() / 2).max(1);
+    loop {
+        let mut dropped = false;
+        let mut at = 0;
+        while at < lines.len() {
+            let mut fewer = lines.clone();
+            fewer.drain(at..(at + size).min(lines.len()));
+            if differs(&fewer.concat()) {
+                lines = fewer;
+                dropped = true;
+            } else {
+                at += size;
+            }
+        }
+        if size > 1 {
+            size /= 2;
+        } else if !dropped {
+            return lines.concat();
+        }
+    }
+}
+
+/// Shows a text, or its beginning.
+pub fn show(title: &str, bytes: &[u8]) {
+    println!("{title} ({} bytes):", bytes.len());
+    const MOST: usize = 4_000;
+    for line in split(&bytes[..bytes.len().min(MOST)]) {
+        println!("  {}", line.escape_ascii());
+    }
+    if bytes.len() > MOST {
+        println!("  ...");
+    }
+}
