@@ -480,7 +480,7 @@ pub fn picture(
 
 /// The display cell at a position; "Line length L is 80 (N=0) or 40 (N=1);
 /// position p shows cell (p + shift) modulo L of its line. N=0 drives line 1 only".
-fn shown_cell(rec: &Record, line: u8, column: u8) -> Option<u8> {
+pub fn shown_cell(rec: &Record, line: u8, column: u8) -> Option<u8> {
     match (rec.n, line) {
         (false, 0) => Some((column + rec.shift) % 80),
         (false, _) => None,
@@ -799,15 +799,35 @@ pub fn session(text: &[u8]) -> Vec<u8> {
 pub fn session_with(text: &[u8], read: Reader, step: Step) -> Vec<u8> {
     // "longer: the one line `too long`"
     if text.len() > SESSION_BYTES {
-        return b"too long\n".to_vec();
+        return TOO_LONG.to_vec();
     }
+    play(text, read, step).report.into_bytes()
+}
+
+/// "the one line `too long`"
+pub const TOO_LONG: &[u8] = b"too long\n";
+/// "prints the header".
+pub const HEADER: &str = "no\tanswer\tbyte\tbusy\n";
+
+/// A text of lines, played to its end or to its first bad line.
+pub struct Played {
+    pub rec: Record,
+    pub mem: [u8; MEMORY],
+    pub report: String,
+    /// Where in the report the row of the bad line begins, if there was one.
+    pub bad_row: Option<usize>,
+}
+
+/// Plays a text of any length, with a reader and a transfer of the caller's.
+pub fn play(text: &[u8], read: Reader, step: Step) -> Played {
     // "starts from reset with pattern cells 00h"
     let mut mem = [0x00; MEMORY];
     let (_, mut rec) = reset(record_after_reset(), &mut mem);
 
     // "prints the header, then for each transfer its number from 1, answer, byte
     // (two upper-case hex digits) and busy left, tab-parted."
-    let mut report = String::from("no\tanswer\tbyte\tbusy\n");
+    let mut report = String::from(HEADER);
+    let mut bad_row = None;
     let mut rest = text;
     let mut number = 1;
     while !rest.is_empty() {
@@ -815,6 +835,7 @@ pub fn session_with(text: &[u8], read: Reader, step: Step) -> Vec<u8> {
         // "A bad line prints its number, answer 12, byte 00 and the busy as it
         // stands, and ends it."
         if read_answer != DONE {
+            bad_row = Some(report.len());
             report.push_str(&format!("{number}\t{BAD_LINE}\t00\t{}\n", rec.busy));
             break;
         }
@@ -824,5 +845,10 @@ pub fn session_with(text: &[u8], read: Reader, step: Step) -> Vec<u8> {
         rest = &rest[line.length..];
         number += 1;
     }
-    report.into_bytes()
+    Played {
+        rec,
+        mem,
+        report,
+        bad_row,
+    }
 }

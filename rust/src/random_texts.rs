@@ -1,7 +1,7 @@
 //! Random session texts.
 
 use crate::chance::Chance;
-use crate::model::{DATA_READ, DATA_WRITE, INSTRUCTION_WRITE, STATUS_READ};
+use crate::model::{DATA_READ, DATA_WRITE, INSTRUCTION_WRITE, SESSION_BYTES, STATUS_READ};
 use crate::random_lines::{byte_of, damaged_line, line, KINDS};
 
 const WAITS: [u64; 12] = [
@@ -24,6 +24,9 @@ const ADDRESSES: [u8; 16] = [
     0x00, 0x01, 0x26, 0x27, 0x28, 0x3F, 0x40, 0x41, 0x4E, 0x4F, 0x50, 0x66, 0x67, 0x68, 0x7F, 0x20,
 ];
 
+/// The numbers of the panels' generators lie past those of the texts'.
+const PANELS: u64 = 1 << 40;
+
 /// Text number k of a seed.
 pub fn random_text(seed: u64, number: u64) -> Vec<u8> {
     let mut chance = Chance::new(seed, number);
@@ -32,6 +35,24 @@ pub fn random_text(seed: u64, number: u64) -> Vec<u8> {
         2 => large_text(&mut chance),
         _ => text_of_lines(&mut chance),
     }
+}
+
+/// Text number k of a seed for a panel that is to be seen: one that turns the display on
+/// and writes to it, and then the text above; now and then that text alone.
+pub fn random_panel_text(seed: u64, number: u64) -> Vec<u8> {
+    let rest = random_text(seed, number);
+    let mut chance = Chance::new(seed, PANELS + number);
+    // A text near the limit stays as it is, so that the limit is met.
+    if rest.len() > SESSION_BYTES / 2 || chance.percent(15) {
+        return rest;
+    }
+    let mut text = Text {
+        patient: true,
+        four: false,
+        ..Text::new(&mut chance)
+    };
+    text.panel();
+    [text.bytes, rest].concat()
 }
 
 /// Random bytes alone, or random ones of those that lines are made of.
@@ -275,6 +296,27 @@ impl Text<'_> {
         if wait == 9_999 {
             self.line(INSTRUCTION_WRITE, byte, 1);
         }
+    }
+
+    /// A panel over eight wires, on, with patterns and letters of its own, and mostly with
+    /// a cursor and a shift.
+    fn panel(&mut self) {
+        let function = self.chance.pick(&[0x30, 0x38]);
+        self.line(INSTRUCTION_WRITE, function, 15_000);
+        self.instruction(0x0C, 0x03);
+        for address in [0x40, 0x80, 0xC0] {
+            self.instruction(address, 0x07);
+            for _ in 0..self.chance.between(0, 40) {
+                let (shape, pattern) = (self.chance.between(0x21, 0x7D), self.chance.below(0x20));
+                let byte = self.chance.pick(&[shape, shape, pattern]) as u8;
+                self.send(DATA_WRITE, byte);
+            }
+        }
+        let way = self.chance.pick(&[0x18, 0x1C]);
+        for _ in 0..self.chance.pick(&[0, 1, 3, 39, 41, 79]) {
+            self.send(INSTRUCTION_WRITE, way);
+        }
+        self.address_set();
     }
 
     /// A good line of exactly so many bytes, 7 to 16.

@@ -505,7 +505,8 @@ const WRONG_WRITERS: [(&str, Writer); 2] = [
 /// A wrong function in its place, with its name.
 type Named = (&'static str, Model);
 
-fn each<F: Copy>(wrong: &[(&'static str, F)], place: fn(F) -> Model) -> Vec<Named> {
+/// Each wrong function put in its place.
+pub fn each<F: Copy, M>(wrong: &[(&'static str, F)], place: fn(F) -> M) -> Vec<(&'static str, M)> {
     let named = wrong
         .iter()
         .map(|&(name, function)| (name, place(function)));

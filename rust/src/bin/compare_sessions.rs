@@ -88,7 +88,7 @@ fn main() {
     };
     let seed = options.number(1, DEFAULT_SEED);
     let texts = options.number(2, DEFAULT_TEXTS);
-    // No session shows the shift, so that one cannot be found out here.
+    // No report shows the shift, so that one cannot be found out here: `compare_glass` does.
     options.compare(&["read-shifts"], |model| {
         compare(program, model, seed, texts)
     })

@@ -1,0 +1,205 @@
+//! Compares the program `glass` with the drawing on the model, on random session texts.
+//!
+//! ```text
+//! compare_glass PROGRAM [SEED] [RUNS] [--wrong | --wrong=NAME | --wrong=all]
+//! ```
+//!
+//! Each run has a text, a size of the glass and a form; every byte that PROGRAM writes to
+//! standard output and standard error must be the drawing's. On a difference text and
+//! size are made smaller, both drawings shown, and the exit is 1. With `--wrong` a
+//! deliberately wrong drawing takes the drawing's place; `--wrong=all` tries each, and
+//! the exit is 0 if all were found out.
+
+use std::fmt::{self, Display, Formatter};
+
+use yaropesk_model::chance::Chance;
+use yaropesk_model::drawing::{Drawing, Form, Size, Written, DRAWING};
+use yaropesk_model::model::{self, Half, SESSION_BYTES};
+use yaropesk_model::options::Options;
+use yaropesk_model::programs::{run, show, shrink, Ran};
+use yaropesk_model::random_texts::random_panel_text;
+use yaropesk_model::wrong_drawings;
+
+const DEFAULT_SEED: u64 = 44_780;
+const DEFAULT_RUNS: u64 = 2_000;
+
+/// The words' generators lie past those of the texts.
+const WORDS: u64 = 1 << 41;
+
+/// The size that need not be said.
+const USUAL: Size = Size {
+    columns: 16,
+    lines: 2,
+};
+
+/// What is asked for: a size and a form, and the words that say so.
+#[derive(Clone)]
+struct Wanted {
+    size: Size,
+    form: Form,
+    words: Vec<String>,
+}
+
+impl Wanted {
+    fn new(size: Size, form: Form, form_first: bool) -> Wanted {
+        let numbers = [size.columns.to_string(), size.lines.to_string()];
+        let form_word = match form {
+            Form::Text => None,
+            Form::Bitmap => Some(String::from("--pbm")),
+            Form::Cells => Some(String::from("--cells")),
+        };
+        let words = match form_first {
+            true => form_word.into_iter().chain(numbers).collect(),
+            false => numbers.into_iter().chain(form_word).collect(),
+        };
+        Wanted { size, form, words }
+    }
+
+    /// Any size and form, the usual sizes more often; the words in either order.
+    fn random(chance: &mut Chance) -> Wanted {
+        let any = chance.between(1, 40) as u8;
+        let size = Size {
+            columns: chance.pick(&[1, 16, 20, 40, any, any, any, any]),
+            lines: chance.pick(&[1, 2]),
+        };
+        let form = chance.pick(&[Form::Text, Form::Bitmap, Form::Cells]);
+        let mut wanted = Wanted::new(size, form, chance.percent(50));
+        if size == USUAL && chance.percent(50) {
+            wanted.words.retain(|word| word.starts_with("--"));
+        }
+        wanted
+    }
+
+    /// The same of a smaller glass.
+    fn sized(&self, columns: u8, lines: u8) -> Wanted {
+        Wanted::new(Size { columns, lines }, self.form, false)
+    }
+}
+
+impl Display for Wanted {
+    fn fmt(&self, to: &mut Formatter) -> fmt::Result {
+        write!(to, "{}", self.words.join(" "))
+    }
+}
+
+/// A program beside a drawing.
+#[derive(Clone, Copy)]
+struct Pair<'a> {
+    program: &'a str,
+    drawing: Drawing,
+}
+
+impl Pair<'_> {
+    fn program_writes(&self, wanted: &Wanted, text: &[u8]) -> Ran {
+        run(self.program, &wanted.words, text)
+    }
+
+    fn drawing_writes(&self, wanted: &Wanted, text: &[u8]) -> Written {
+        self.drawing.program(text, wanted.size, wanted.form)
+    }
+
+    fn differs(&self, wanted: &Wanted, text: &[u8]) -> bool {
+        let (ran, written) = (
+            self.program_writes(wanted, text),
+            self.drawing_writes(wanted, text),
+        );
+        ran.ended.is_some() || ran.output != written.output || ran.errors != written.errors
+    }
+
+    /// The smallest glass on which they still differ.
+    fn smallest(&self, wanted: &Wanted, text: &[u8]) -> Wanted {
+        let sizes = (1..=wanted.size.lines)
+            .flat_map(|lines| (1..=wanted.size.columns).map(move |columns| (columns, lines)));
+        sizes
+            .map(|(columns, lines)| wanted.sized(columns, lines))
+            .find(|smaller| self.differs(smaller, text))
+            .unwrap_or_else(|| wanted.clone())
+    }
+
+    fn show_difference(&self, wanted: &Wanted, text: &[u8]) {
+        let short = shrink(text, |text| self.differs(wanted, text));
+        let smallest = self.smallest(wanted, &short);
+        let ran = self.program_writes(&smallest, &short);
+        let written = self.drawing_writes(&smallest, &short);
+        let mut bytes = ran.output.iter().zip(&written.output);
+        let first = bytes.position(|(ours, theirs)| ours != theirs);
+        println!("the words: {smallest}");
+        show("shortest text", &short);
+        show("the program writes", &ran.output);
+        show("the drawing on the model is", &written.output);
+        if let Some(at) = first {
+            println!("the first {at} bytes are equal");
+        }
+        if ran.errors != written.errors {
+            show("standard error should be", &written.errors);
+        }
+        ran.show_faults();
+    }
+}
+
+/// What the runs have reached.
+#[derive(Default)]
+struct Reached {
+    forms: [u64; 3],
+    bad_lines: u64,
+    too_long: u64,
+    displays_on: u64,
+    halves: u64,
+}
+
+impl Reached {
+    fn count(&mut self, wanted: &Wanted, text: &[u8]) {
+        self.forms[wanted.form as usize] += 1;
+        if text.len() > SESSION_BYTES {
+            self.too_long += 1;
+            return;
+        }
+        let played = model::play(text, model::read_line, model::transfer);
+        self.bad_lines += u64::from(played.bad_row.is_some());
+        self.displays_on += u64::from(played.rec.d);
+        self.halves += u64::from(played.rec.half != Half::None);
+    }
+}
+
+impl Display for Reached {
+    fn fmt(&self, to: &mut Formatter) -> fmt::Result {
+        let [text, bitmap, cells] = self.forms;
+        write!(
+            to,
+            "text {text}, bitmap {bitmap}, cells {cells}; \
+             display on {}, a half waiting {}, bad lines {}, too long {}",
+            self.displays_on, self.halves, self.bad_lines, self.too_long
+        )
+    }
+}
+
+/// Compares in so many runs; true when a difference was found (and shown).
+fn compare(pair: Pair, seed: u64, runs: u64) -> bool {
+    let mut reached = Reached::default();
+    for number in 0..runs {
+        let text = random_panel_text(seed, number);
+        let wanted = Wanted::random(&mut Chance::new(seed, WORDS + number));
+        if pair.differs(&wanted, &text) {
+            println!("difference at run {number} of seed {seed}, words {wanted}");
+            pair.show_difference(&wanted, &text);
+            return true;
+        }
+        reached.count(&wanted, &text);
+    }
+    println!("{runs} drawings of seed {seed}: no difference");
+    println!("{reached}");
+    false
+}
+
+fn main() {
+    let usage = "compare_glass PROGRAM [SEED] [RUNS]";
+    let options = Options::read(usage, DRAWING, wrong_drawings::all());
+    let (Some(program), 1..=3) = (options.plain.first(), options.plain.len()) else {
+        options.refuse();
+    };
+    let seed = options.number(1, DEFAULT_SEED);
+    let runs = options.number(2, DEFAULT_RUNS);
+    options.compare(&[], |drawing| {
+        compare(Pair { program, drawing }, seed, runs)
+    })
+}

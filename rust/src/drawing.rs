@@ -1,0 +1,253 @@
+//! What the program `glass` writes, on the model: a panel as text in a frame, as a
+//! bitmap or as a list of its cells.
+//!
+//! Written from README.md ("See the glass"), the stored drawings under tests/glass/ and
+//! document 01 alone, apart from the proved code.
+
+use crate::calls::{Model, MODEL};
+use crate::font::SHAPES;
+use crate::model::{self, Counter, Half, Played, Record, DISPLAY_CELLS};
+
+#[derive(Clone, Copy, Debug, PartialEq, Eq)]
+pub enum Form {
+    Text,
+    Bitmap,
+    Cells,
+}
+
+/// The size of a glass.
+#[derive(Clone, Copy, Debug, PartialEq, Eq)]
+pub struct Size {
+    pub columns: u8,
+    pub lines: u8,
+}
+
+/// What a program writes to its standard output and to its standard error.
+#[derive(Clone, Debug, Default, PartialEq, Eq)]
+pub struct Written {
+    pub output: Vec<u8>,
+    pub errors: Vec<u8>,
+}
+
+/// One place of the drawn glass: a dot, or the gap between two characters or lines.
+#[derive(Clone, Copy, Debug, PartialEq, Eq)]
+pub enum Dot {
+    Lit,
+    Dark,
+    Gap,
+}
+
+/// The places of a glass, row by row.
+pub type Grid = Vec<Vec<Dot>>;
+
+/// Functions with the shapes of `grid`, `pixels`, `is_shown` and `state` below.
+pub type Gridder = fn(&[u8], Size) -> Grid;
+pub type Inker = fn(Dot) -> [u8; 8];
+pub type Watcher = fn(&Record, Size, u8) -> bool;
+pub type Teller = fn(&Record) -> String;
+
+/// The model and the parts of a drawing. A wrong one has a wrong function in it.
+#[derive(Clone, Copy)]
+pub struct Drawing {
+    pub model: Model,
+    pub grid: Gridder,
+    pub pixels: Inker,
+    pub is_shown: Watcher,
+    pub state: Teller,
+}
+
+/// The drawing as it should be.
+pub const DRAWING: Drawing = Drawing {
+    model: MODEL,
+    grid,
+    pixels,
+    is_shown,
+    state,
+};
+
+// ---------------------------------------------------------------------------
+// The program
+// ---------------------------------------------------------------------------
+
+impl Drawing {
+    /// What the program `glass` writes for a session.
+    pub fn program(&self, text: &[u8], size: Size, form: Form) -> Written {
+        let mut written = Written::default();
+        // Words beside a bitmap go elsewhere, so that it stands alone.
+        let told = match form {
+            Form::Bitmap => &mut written.errors,
+            Form::Text | Form::Cells => &mut written.output,
+        };
+        if text.len() > model::SESSION_BYTES {
+            told.extend_from_slice(model::TOO_LONG);
+            return written;
+        }
+        let played = model::play(text, self.model.read_line, self.model.transfer);
+        if let Some(at) = played.bad_row {
+            told.extend_from_slice(model::HEADER.as_bytes());
+            told.extend_from_slice(&played.report.as_bytes()[at..]);
+        }
+        written.output.extend(self.drawn(&played, size, form));
+        written
+    }
+
+    fn drawn(&self, played: &Played, size: Size, form: Form) -> Vec<u8> {
+        match form {
+            Form::Text => self.text(played, size).into_bytes(),
+            Form::Bitmap => self.bitmap(&self.glass(played, size)),
+            Form::Cells => self.cells(played, size).into_bytes(),
+        }
+    }
+
+    /// "draws the panel as it then stands, cursor and blinking in the lit phase".
+    fn glass(&self, played: &Played, size: Size) -> Grid {
+        let Size { columns, lines } = size;
+        let mut dots = vec![0; usize::from(lines) * 8 * usize::from(columns)];
+        let (rec, mem) = (&played.rec, &played.mem);
+        let answer = (self.model.picture)(rec, mem, columns, lines, true, &mut dots, &SHAPES);
+        assert_eq!(answer, model::DONE, "the size is that of a glass");
+        (self.grid)(&dots, size)
+    }
+
+    // -----------------------------------------------------------------------
+    // Text in a frame
+    // -----------------------------------------------------------------------
+
+    /// The dots in a frame, "with the state below".
+    fn text(&self, played: &Played, size: Size) -> String {
+        let grid = self.glass(played, size);
+        let edge = format!("+{}+\n", "-".repeat(grid[0].len()));
+        let mut text = edge.clone();
+        for row in grid {
+            let places: String = row.into_iter().map(letter).collect();
+            text.push_str(&format!("|{places}|\n"));
+        }
+        text + &edge + &(self.state)(&played.rec)
+    }
+
+    // -----------------------------------------------------------------------
+    // Bitmap
+    // -----------------------------------------------------------------------
+
+    /// "the same picture is written as a portable bitmap": each place is a square of
+    /// eight pixels, and an empty place runs round the glass.
+    fn bitmap(&self, grid: &Grid) -> Vec<u8> {
+        let width = grid[0].len() + 2;
+        let around = vec![vec![Dot::Gap; width - 2]];
+        let mut bytes = format!("P4\n{:04} {:04}\n", width * 8, (grid.len() + 2) * 8).into_bytes();
+        for row in around.iter().chain(grid).chain(&around) {
+            let mut places = vec![Dot::Gap; width];
+            places[1..width - 1].copy_from_slice(row);
+            for pixel_row in 0..8 {
+                let pixels = places.iter().map(|&dot| (self.pixels)(dot)[pixel_row]);
+                bytes.extend(pixels);
+            }
+        }
+        bytes
+    }
+
+    // -----------------------------------------------------------------------
+    // Cells
+    // -----------------------------------------------------------------------
+
+    /// "all 144 cells are listed as hexadecimal, those display cells that this glass does
+    /// not show marked `*`", sixteen to a line.
+    fn cells(&self, played: &Played, size: Size) -> String {
+        let mut text = String::from("display cells marked * are not on this glass\n");
+        let shown = |cell: usize| (self.is_shown)(&played.rec, size, cell as u8);
+        let (display, pattern) = played.mem.split_at(usize::from(DISPLAY_CELLS));
+        text.push_str(&listed("display", display, |cell| !shown(cell)));
+        text.push_str(&listed("pattern", pattern, |_| false));
+        text + &(self.state)(&played.rec)
+    }
+}
+
+// ---------------------------------------------------------------------------
+// The parts
+// ---------------------------------------------------------------------------
+
+/// Five dots a character, a gap between two characters and a row of gaps between two
+/// lines.
+pub fn grid(picture: &[u8], size: Size) -> Grid {
+    let columns = usize::from(size.columns);
+    let mut grid = Vec::new();
+    for (row, bytes) in picture.chunks(columns).enumerate() {
+        let characters: Vec<[Dot; 5]> = bytes.iter().map(|&byte| five_dots(byte)).collect();
+        if row > 0 && row % 8 == 0 {
+            grid.push(vec![Dot::Gap; columns * 6 - 1]);
+        }
+        grid.push(characters.join(&Dot::Gap));
+    }
+    grid
+}
+
+/// "five dots, bit 4 leftmost".
+fn five_dots(byte: u8) -> [Dot; 5] {
+    [4, 3, 2, 1, 0].map(|bit| match byte >> bit & 1 {
+        1 => Dot::Lit,
+        _ => Dot::Dark,
+    })
+}
+
+fn letter(dot: Dot) -> char {
+    match dot {
+        Dot::Lit => '#',
+        Dot::Dark => '.',
+        Dot::Gap => ' ',
+    }
+}
+
+/// The eight rows of eight pixels of one place. A lit dot is seven wide and high, so that
+/// dots stand apart.
+pub fn pixels(dot: Dot) -> [u8; 8] {
+    match dot {
+        Dot::Lit => [0xFE, 0xFE, 0xFE, 0xFE, 0xFE, 0xFE, 0xFE, 0x00],
+        Dot::Dark | Dot::Gap => [0x00; 8],
+    }
+}
+
+/// Does some position of the glass show this display cell? "position p shows cell
+/// (p + shift) modulo L of its line. N=0 drives line 1 only". D is not looked at.
+pub fn is_shown(rec: &Record, size: Size, cell: u8) -> bool {
+    (0..size.lines).any(|line| {
+        (0..size.columns).any(|column| model::shown_cell(rec, line, column) == Some(cell))
+    })
+}
+
+fn listed(name: &str, cells: &[u8], is_marked: impl Fn(usize) -> bool) -> String {
+    let mut text = String::new();
+    for (line, sixteen) in cells.chunks(16).enumerate() {
+        let first = line * 16;
+        text.push_str(&format!("{name} {first:>2}"));
+        for (at, byte) in sixteen.iter().enumerate() {
+            let mark = if is_marked(first + at) { '*' } else { ' ' };
+            text.push_str(&format!(" {mark}{byte:02X}"));
+        }
+        text.push('\n');
+    }
+    text
+}
+
+/// "`counter` is the cell that the next data write goes to", "`half` the half transfer
+/// that waits: the letter of its kind and its bits". Each field has its place, however
+/// long it is.
+pub fn state(rec: &Record) -> String {
+    let lines = if rec.n { 2 } else { 1 };
+    let display = if rec.d { "on" } else { "off" };
+    let (memory, cell) = match rec.counter {
+        Counter::Display(cell) => ("display", cell),
+        Counter::Pattern(cell) => ("pattern", cell),
+    };
+    let half = match rec.half {
+        Half::None => String::from("none"),
+        Half::InstructionWrite(high) => format!("I {:02X}", high << 4),
+        Half::DataWrite(high) => format!("D {:02X}", high << 4),
+        Half::StatusRead(byte) => format!("S {byte:02X}"),
+        Half::DataRead(byte) => format!("R {byte:02X}"),
+    };
+    let (shift, busy) = (rec.shift, rec.busy);
+    format!(
+        "lines {lines}  display {display:<3}  counter {memory} {cell:>2}  \
+         shift {shift:>2}  busy {busy:>5}  half {half}\n"
+    )
+}

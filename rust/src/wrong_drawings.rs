@@ -1,0 +1,123 @@
+//! Deliberately wrong drawings, as `wrong` has wrong models.
+
+use crate::drawing::{self, Dot, Drawing, Grid, Gridder, Inker, Size, Teller, Watcher, DRAWING};
+use crate::model::{Half, Record};
+use crate::wrong::{self, each};
+
+/// Each character's dots run from right to left.
+fn mirrored_dots(picture: &[u8], size: Size) -> Grid {
+    let mirrored: Vec<u8> = picture
+        .iter()
+        .map(|byte| byte.reverse_bits() >> 3)
+        .collect();
+    drawing::grid(&mirrored, size)
+}
+
+/// Two gaps between two characters.
+fn gap_too_many(picture: &[u8], size: Size) -> Grid {
+    let widened = |row: Vec<Dot>| {
+        let characters: Vec<&[Dot]> = row.chunks(6).collect();
+        characters.join(&Dot::Gap)
+    };
+    drawing::grid(picture, size)
+        .into_iter()
+        .map(widened)
+        .collect()
+}
+
+/// Nothing between two lines.
+fn lines_joined(picture: &[u8], size: Size) -> Grid {
+    let mut grid = drawing::grid(picture, size);
+    if size.lines == 2 {
+        grid.remove(8);
+    }
+    grid
+}
+
+/// The dots touch.
+fn dots_touch(dot: Dot) -> [u8; 8] {
+    match dot {
+        Dot::Lit => [0xFF; 8],
+        Dot::Dark | Dot::Gap => [0x00; 8],
+    }
+}
+
+/// The last display cell counts as shown on every glass.
+fn last_cell_unmarked(rec: &Record, size: Size, cell: u8) -> bool {
+    cell == 79 || drawing::is_shown(rec, size, cell)
+}
+
+/// The shift is forgotten where cells are marked.
+fn marked_unshifted(rec: &Record, size: Size, cell: u8) -> bool {
+    drawing::is_shown(&Record { shift: 0, ..*rec }, size, cell)
+}
+
+/// The cells behind a second line are marked as if it were driven with N=0 too.
+fn second_line_shown(rec: &Record, size: Size, cell: u8) -> bool {
+    drawing::is_shown(rec, size, cell) || (size.lines == 2 && cell == 40)
+}
+
+/// The shift is told modulo the length of a line.
+fn shift_in_line(rec: &Record) -> String {
+    let length = if rec.n { 40 } else { 80 };
+    drawing::state(&Record {
+        shift: rec.shift % length,
+        ..*rec
+    })
+}
+
+/// A read's half is told by its first four bits.
+fn half_of_a_half(rec: &Record) -> String {
+    let half = match rec.half {
+        Half::StatusRead(byte) => Half::StatusRead(byte & 0xF0),
+        Half::DataRead(byte) => Half::DataRead(byte & 0xF0),
+        other => other,
+    };
+    drawing::state(&Record { half, ..*rec })
+}
+
+/// Busy is told without the places of its missing digits.
+fn busy_not_placed(rec: &Record) -> String {
+    let (place, number) = (format!("{:>5}", rec.busy), rec.busy.to_string());
+    drawing::state(rec).replace(&format!("busy {place}"), &format!("busy {number}"))
+}
+
+const WRONG_GRIDS: [(&str, Gridder); 3] = [
+    ("mirrored-dots", mirrored_dots),
+    ("gap-too-many", gap_too_many),
+    ("lines-joined", lines_joined),
+];
+
+const WRONG_PIXELS: [(&str, Inker); 1] = [("dots-touch", dots_touch)];
+
+const WRONG_MARKS: [(&str, Watcher); 3] = [
+    ("last-cell-unmarked", last_cell_unmarked),
+    ("marked-unshifted", marked_unshifted),
+    ("second-line-shown", second_line_shown),
+];
+
+const WRONG_STATES: [(&str, Teller); 3] = [
+    ("shift-in-line", shift_in_line),
+    ("half-of-a-half", half_of_a_half),
+    ("busy-not-placed", busy_not_placed),
+];
+
+/// Those of the wrong models that no report shows.
+const WRONG_MODELS: [&str; 2] = ["read-shifts", "second-line-drawn"];
+
+/// All of them, with their names.
+pub fn all() -> Vec<(&'static str, Drawing)> {
+    let mut models = wrong::of_calls();
+    models.retain(|(name, _)| WRONG_MODELS.contains(name));
+    [
+        each(&WRONG_GRIDS, |grid| Drawing { grid, ..DRAWING }),
+        each(&WRONG_PIXELS, |pixels| Drawing { pixels, ..DRAWING }),
+        each(&WRONG_MARKS, |is_shown| Drawing {
+            is_shown,
+            ..DRAWING
+        }),
+        each(&WRONG_STATES, |state| Drawing { state, ..DRAWING }),
+        each(&models, |model| Drawing { model, ..DRAWING }),
+    ]
+    .concat()
+}

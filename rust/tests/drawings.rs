@@ -1,0 +1,52 @@
+//! The drawing on the model is what tests/glass/ stores of the program `glass`.
+
+use std::fs;
+use std::path::{Path, PathBuf};
+
+use yaropesk_model::drawing::{Form, Size, DRAWING};
+
+/// The size and the form that the words ask for.
+fn wanted<'a>(words: impl Iterator<Item = &'a str>) -> (Size, Form) {
+    let mut form = Form::Text;
+    let mut numbers = Vec::new();
+    for word in words {
+        match word {
+            "--pbm" => form = Form::Bitmap,
+            "--cells" => form = Form::Cells,
+            number => numbers.push(number.parse().expect("a number")),
+        }
+    }
+    let size = match numbers[..] {
+        [columns, lines] => Size { columns, lines },
+        _ => Size {
+            columns: 16,
+            lines: 2,
+        },
+    };
+    (size, form)
+}
+
+fn stored_words(root: &Path) -> Vec<PathBuf> {
+    let folder = fs::read_dir(root.join("tests/glass")).expect("the folder is there");
+    folder
+        .map(|entry| entry.expect("an entry").path())
+        .filter(|path| path.extension().is_some_and(|ending| ending == "words"))
+        .collect()
+}
+
+#[test]
+fn stored_drawings_are_drawn() {
+    let root = Path::new(env!("CARGO_MANIFEST_DIR")).join("..");
+    let stored = stored_words(&root);
+    assert!(stored.len() > 10);
+    for path in stored {
+        let words = fs::read_to_string(&path).expect("words");
+        let mut words = words.split_whitespace();
+        let session = root.join(words.next().expect("a session"));
+        let text = fs::read(session).expect("a session's text");
+        let (size, form) = wanted(words);
+        let written = DRAWING.program(&text, size, form);
+        let drawn = fs::read(path.with_extension("out")).expect("a drawing");
+        assert!(written.output == drawn, "{}", path.display());
+    }
+}
