@@ -67,6 +67,12 @@ cellOfAcg acg = acg .0 % 64
 unfoldable pub acgOfCell : ℕ → Acg
 acgOfCell cell = record { 0 = cell }
 
+-- The instruction that sets the counter to this cell: 80h and the cell's ADD, or 40h and its ACG. A number past the last cell of its
+-- memory is counted on from the first.
+unfoldable pub addressSet : Bool → Counter → ℕ
+addressSet n (Display cell) = 0x80 + addOfCell n (cell % 80) .0
+addressSet n (Pattern cell) = 0x40 + acgOfCell (cell % 64) .0
+
 -- The counter's address.
 unfoldable pub addressOf : Bool → Counter → ℕ
 addressOf n (Display cell) = addOfCell n cell .0

@@ -4,7 +4,7 @@ ghost use mathlib.Core.Bool.{true};
 ghost use mathlib.Core.Path.{_≡_};
 ghost use Prim.Native.Nat.{_<_, _≤_};
 ghost use lib.ListN.{length};
-ghost use Rattle.controller.specs.Cells.{acgOfCell, addOfCell, addressOf, byteAt, cellOfAcg, cellOfAdd, lineLength, onCell, placeOf, stepped, wrapped};
+ghost use Rattle.controller.specs.Cells.{acgOfCell, addOfCell, addressOf, addressSet, byteAt, cellOfAcg, cellOfAdd, lineLength, onCell, placeOf, stepped, wrapped};
 
 // A display address, as the bus carries it. It is never read as a pattern address.
 pub struct Add(pub u8);
@@ -133,6 +133,16 @@ pub fn acg_of_cell(cell: u8) -> Acg
     ensures { λ r. ⌜ r ≡ acgOfCell cell ⌝ }
 {
     Acg(cell)
+}
+
+// The instruction that sets the counter to this cell. A number past the last cell of its memory is counted on from the first.
+pub fn address_set(n: bool, counter: Counter) -> u8
+    ensures { λ r. ⌜ r ≡ addressSet n counter ⌝ }
+{
+    match counter {
+        Counter::Display(cell) => 0x80 + add_of_cell(n, cell % 80).0,
+        Counter::Pattern(cell) => 0x40 + acg_of_cell(cell % 64).0,
+    }
 }
 
 // The counter's address, as a status read shows it.

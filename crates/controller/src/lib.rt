@@ -16,6 +16,7 @@ pub use bus::transfer;
 pub use cells::Acg;
 pub use cells::Add;
 pub use cells::Counter;
+pub use cells::address_set;
 pub use cells::line_length;
 pub use decision::Answer;
 pub use decision::Outcome;

@@ -5,10 +5,12 @@ use mathlib.Core.List.{List, [], _∷_, _++_}
 use Prim.Native.Nat.{ℕ, zero, suc, _+_, _-_, _*_, _/_, _%_}
 use lib.Dec.{ltb, leb, eqb}
 use lib.ListN.{length, getD, drop, replicate}
-use Rattle.controller.specs.Cells.{addOfCell}
+use Rattle.controller.specs.Cells.{addressSet}
 use Rattle.controller.specs.Execute.{shortTime, longTime}
 use Rattle.controller.specs.Halves.{highHalf, lowHalf}
 use Rattle.controller.specs.Runs.{Sent}
+use Rattle.controller.specs.declared.cells.Counter.{Counter}
+use Rattle.controller.specs.declared.cells.Counter.the-variants.{Display, Pattern}
 use Rattle.planner.specs.declared.wish.Wish.{Wish}
 use Rattle.planner.specs.Wish.{marked, follows}
 
@@ -45,9 +47,13 @@ setUp wish =
     ∷ instruction 0x02
     ∷ []
 
--- The address set for the cell at this place.
+-- The counter on the cell at this place: display cells 0 to 79, then pattern cells 0 to 63.
+unfoldable pub counterAt : ℕ → Counter
+counterAt place = cond (ltb place 80) (Display place) (Pattern (place - 80))
+
+-- The address set for the cell at this place: 80h and its ADD, or 40h and its ACG.
 unfoldable pub addressByte : Bool → ℕ → ℕ
-addressByte n place = cond (ltb place 80) (0x80 + addOfCell n place .0) (0x40 + (place - 80))
+addressByte n place = addressSet n (counterAt place)
 
 -- A marked cell is written, an address set first unless the cell before it in the same memory is marked.
 unfoldable pub cell : Bool → List ℕ → List ℕ → ℕ → List Command

@@ -5,7 +5,7 @@ ghost use Prim.Native.Nat.{_+_, _*_, _<_, _≤_};
 ghost use lib.ListN.{length, replicate};
 ghost use lib.Seq.{sets};
 ghost use Rattle.planner.specs.Pen.{Wrote};
-ghost use Rattle.planner.specs.Plan.{addressByte, cell, cellsBelow, encoded, ending, instruction, opening, setUp, worth};
+ghost use Rattle.planner.specs.Plan.{addressByte, cell, cellsBelow, counterAt, encoded, ending, instruction, opening, setUp, worth};
 use crate::pen::Pen;
 use crate::pen::put;
 use crate::pen::send;
@@ -13,8 +13,10 @@ use crate::wish::Wish;
 use crate::wish::follows_marked;
 use crate::wish::is_marked;
 use controller::Control;
+use controller::Counter;
 use controller::Entry;
 use controller::Function;
+use controller::address_set;
 
 // Four single transfers that bring any controller to width 4 with no half waiting.
 pub fn open(out: &mut [u8]) -> Pen
@@ -70,21 +72,21 @@ pub fn shift_left(out: &mut [u8], pen: Pen, shift: u8) -> Pen
     next
 }
 
-// The address set for the cell at this place: display cells first, then pattern cells.
+// The counter on the cell at this place: display cells first, then pattern cells.
+fn counter_at(place: u8) -> Counter
+    ensures { λ r. ⌜ r ≡ counterAt place ⌝ }
+{
+    if place < 80 {
+        return Counter::Display(place);
+    }
+    Counter::Pattern(place - 80)
+}
+
+// The address set for the cell at this place.
 fn address_byte(n: bool, place: u8) -> u8
-    requires { ⌜ place < 144 ⌝ }
     ensures { λ r. ⌜ r ≡ addressByte n place ⌝ }
 {
-    if 80 <= place {
-        return 0x40 + (place - 80);
-    }
-    if !n {
-        return 0x80 + place;
-    }
-    if place < 40 {
-        return 0x80 + place;
-    }
-    0x80 + (place + 24)
+    address_set(n, counter_at(place))
 }
 
 // A marked cell, with an address set first unless the cell before it in the same memory is marked.
@@ -132,7 +134,7 @@ fn control_byte(control: Control) -> u8
 
 // Entry Mode, the cursor's address and Display Control.
 pub fn end(out: &mut [u8], pen: Pen, wish: Wish) -> Pen
-    requires { ⌜ (pen .at + 6 ≤ 468) × (2808 ≤ length (now out)) × (wish .cursor < 80) ⌝ }
+    requires { ⌜ (pen .at + 6 ≤ 468) × (2808 ≤ length (now out)) ⌝ }
     ensures { λ r. ⌜ Wrote (ending wish) pen r (now (out .entry)) (now (out .exit)) ⌝ }
 {
     let entry = wish.entry;

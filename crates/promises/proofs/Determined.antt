@@ -33,6 +33,7 @@ each-determined =
       reset = λ rec mem. two _ _ _ (record { told = refl; memory = refl }) (λ a l is. (is .told, is .memory));
       is-sound = λ rec. one _;
       number = λ answer. one _;
+      address-set = λ n counter. one _;
       line-length = λ n. one _;
       short-time = one _;
       long-time = one _;

@@ -7,10 +7,11 @@ use mathlib.Core.Path.{_≡_}
 use Prim.Native.Nat.{ℕ}
 use Rattle.controller.specs.Bus.{decided, resetDecided}
 use Rattle.controller.specs.Bus
-use Rattle.controller.specs.Cells.{lineLength}
+use Rattle.controller.specs.Cells.{lineLength, addressSet}
 use Rattle.controller.specs.Decision.{numberOf}
 use Rattle.controller.specs.Execute.{shortTime, longTime}
 use Rattle.controller.specs.Record.{sound}
+use Rattle.controller.specs.declared.cells.Counter.{Counter}
 use Rattle.controller.specs.declared.decision.Answer.{Answer}
 use Rattle.controller.specs.declared.decision.Outcome.{Outcome}
 use Rattle.controller.specs.declared.loan.Told.{Told}
@@ -53,6 +54,7 @@ pub record EachDetermined : Type 0 where
       → ExactlyOne (λ (x : Outcome × List ℕ). Rattle.controller.specs.Bus.Meets (resetDecided rec mem) mem (x .0) (x .1))
   pub is-sound : (rec : Record) → ExactlyOne (λ (x : Bool). x ≡ sound rec)
   pub number : (answer : Answer) → ExactlyOne (λ (x : ℕ). x ≡ numberOf answer)
+  pub address-set : (n : Bool) (counter : Counter) → ExactlyOne (λ (x : ℕ). x ≡ addressSet n counter)
   pub line-length : (n : Bool) → ExactlyOne (λ (x : ℕ). x ≡ lineLength n)
   pub short-time : ExactlyOne (λ (x : ℕ). x ≡ shortTime)
   pub long-time : ExactlyOne (λ (x : ℕ). x ≡ longTime)

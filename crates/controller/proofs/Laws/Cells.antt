@@ -43,6 +43,10 @@ unfolding addOfCell
 add-below false cell below = omega arith
 add-below true cell below = cond-elim (λ (a : ℕ). a < 128) (ltb cell 40) cell (cell + 24) (λ _. omega arith) (λ _. omega arith)
 
+-- and so is that of a number counted on from the first cell
+pub counted-below : (n : Bool) (cell a : ℕ) → a ≡ addOfCell n (cell % 80) .0 → a < 128
+counted-below n cell a is = rw is (add-below n (cell % 80) (omega arith))
+
 pub address-below : (n : Bool) (counter : Counter) → onCell counter ≡ true → addressOf n counter < 128
 unfolding addressOf acgOfCell
 address-below n (Display cell) on = add-below n cell (on-display cell on)

@@ -1,11 +1,11 @@
 -- The marked cells, one by one: before each place the cells below it are written, and inside a run the counter is there.
 -- Assumes nothing.
-use mathlib.Core.Bool.{Bool, true, false, cond, not, _&&_, false≢true}
+use mathlib.Core.Bool.{Bool, true, false, not, _&&_, false≢true}
 use mathlib.Core.List.{List, [], _∷_, _++_, append-assoc}
 use mathlib.Core.Logic.{⊎-elim}
 use mathlib.Core.Path.{_≡_, refl, sym, ap, subst, _∙_}
 use Prim.Native.Nat.{ℕ, zero, suc, _+_, _-_, _%_, _≤_, _<_}
-use native.Mathlib.Nat.{le-refl, eq-or-lt-of-le, le-of-suc-le-suc}
+use native.Mathlib.Nat.{le-refl, eq-or-lt-of-le, le-of-suc-le-suc, mod-eq-of-lt}
 use native.Mathlib.Omega.{arith}
 use lib.Dec.{eqb, ltb, leb}
 use lib.ListN.{length, getD, set}
@@ -15,7 +15,7 @@ use Rattle.controller.proofs.Laws.Cells.{address-below, display-on}
 use Rattle.controller.proofs.Laws.Choice.{cond-elim, and-left, and-right}
 use Rattle.controller.proofs.Laws.Instruction.{decoded-address}
 use Rattle.controller.proofs.Theorems.Cells.{addresses-match, wraps}
-use Rattle.controller.specs.Cells.{placeOf, wrapped, stepped, cellOfAdd, addOfCell, cellOfAcg, addressOf}
+use Rattle.controller.specs.Cells.{placeOf, wrapped, stepped, cellOfAdd, addOfCell, cellOfAcg, acgOfCell, addressSet, addressOf}
 use Rattle.controller.specs.Decision.{performed, done}
 use Rattle.controller.specs.Execute.{shortTime, loaded, changed, addressed, executed, carried, written}
 use Rattle.controller.specs.Instruction.{decoded}
@@ -40,12 +40,8 @@ use Rattle.planner.proofs.Demand.Safe.{Scene, Inv, Safe}
 use Rattle.planner.proofs.Demand.Stages.{Shaped, short-time}
 use Rattle.planner.proofs.Laws.Written.{cell-none, cell-next, cell-first}
 use Rattle.planner.specs.declared.wish.Wish.{Wish}
-use Rattle.planner.specs.Plan.{Command, instruction, write, addressByte, cell, cellsBelow, timeOf, inHalves}
+use Rattle.planner.specs.Plan.{Command, instruction, write, counterAt, addressByte, cell, cellsBelow, timeOf, inHalves}
 use Rattle.planner.specs.Wish.{marked, follows}
-
--- the counter on the cell at this place
-pub counterAt : ℕ → Counter
-counterAt place = cond (ltb place 80) (Display place) (Pattern (place - 80))
 
 pub display-at : (place : ℕ) → place < 80 → counterAt place ≡ Display place
 unfolding counterAt
@@ -95,12 +91,16 @@ follows-none marks place no-mark after-one =
 
 -- the address set of a place
 low-byte : (n : Bool) (place : ℕ) → place < 80 → addressByte n place ≡ 0x80 + addOfCell n place .0
-unfolding addressByte
-low-byte n place below = rw (lt-ltb place 80 below)
+unfolding addressByte addressSet
+low-byte n place below =
+    let same : place % 80 ≡ place = mod-eq-of-lt below in
+    ap (addressSet n) (display-at place below) ∙ ap (λ (cell : ℕ). 0x80 + addOfCell n cell .0) same
 
-high-byte : (n : Bool) (place : ℕ) → 80 ≤ place → addressByte n place ≡ 0x40 + (place - 80)
-unfolding addressByte
-high-byte n place over = rw (le-ltb place 80 over)
+high-byte : (n : Bool) (place : ℕ) → 80 ≤ place → place < 144 → addressByte n place ≡ 0x40 + (place - 80)
+unfolding addressByte addressSet acgOfCell
+high-byte n place over below =
+    let same : (place - 80) % 64 ≡ place - 80 = mod-eq-of-lt (omega arith) in
+    ap (addressSet n) (pattern-at place over) ∙ ap (λ (cell : ℕ). 0x40 + cell) same
 
 add-small : (n : Bool) (place : ℕ) → place < 80 → addOfCell n place .0 < 128
 unfolding addressOf
@@ -110,7 +110,7 @@ pub address-small : (n : Bool) (place : ℕ) → place < 144 → (addressByte n 
 address-small n place below =
     side place
     (λ low. omega (arith, low-byte n place low, add-small n place low))
-    (λ high. omega (arith, high-byte n place high))
+    (λ high. omega (arith, high-byte n place high below))
 
 abbrev add : ℕ → Add
 add a = record { 0 = a }
@@ -138,7 +138,7 @@ pattern-does : (mem : List ℕ) (n : Bool) (place : ℕ) (rec : Record) → 80 �
     → executed mem (decoded (addressByte n place)) rec ≡ changed (loaded mem (Pattern (place - 80)) rec)
 unfolding executed cellOfAcg
 pattern-does mem n place rec high below =
-    let byte : addressByte n place ≡ 0x40 + (place - 80) = high-byte n place high in
+    let byte : addressByte n place ≡ 0x40 + (place - 80) = high-byte n place high below in
     let back : (0x40 + (place - 80) - 0x40) % 64 ≡ place - 80 = omega arith in
     ap (λ (i : Instruction). executed mem i rec) (ap decoded byte ∙ decoded-pattern (0x40 + (place - 80)) (omega arith) (omega arith))
     ∙ ap (λ (c : ℕ). changed (loaded mem (Pattern c) rec)) back

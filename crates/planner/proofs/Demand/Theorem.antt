@@ -20,7 +20,7 @@ use Rattle.controller.specs.declared.instruction.Instruction.{Instruction}
 use Rattle.controller.specs.declared.«record».Function.{Function}
 use Rattle.controller.specs.declared.«record».Half.the-variants.{DataWrite}
 use Rattle.controller.specs.declared.«record».Record.{Record}
-use Rattle.planner.proofs.Demand.Cells.{At, counterAt, display-at, place-at, address-does, address-small, cells-safe}
+use Rattle.planner.proofs.Demand.Cells.{At, display-at, place-at, address-does, address-small, cells-safe}
 use Rattle.planner.proofs.Demand.Command.{instruct}
 use Rattle.planner.proofs.Demand.Opening.{Steady, empty-quiet, short-covered, opening-safe}
 use Rattle.planner.proofs.Demand.Safe.{Scene, Inv, Safe, safe-end, all-runs}
@@ -28,7 +28,7 @@ use Rattle.planner.proofs.Demand.Stages.{short-time, entry-byte, contro
 use Rattle.planner.proofs.Laws.Wish.{worth-small, wish-shift-small, wish-cursor}
 use Rattle.planner.specs.declared.wish.Wish.{Wish}
 use Rattle.planner.specs.Demand.{Whole, EachBegun, joined, halfWrite, excepted, wishedRecord, Stands, NoneBusy, Spared, Bytes, Demand3}
-use Rattle.planner.specs.Plan.{Command, instruction, worth, setUp, addressByte, cellsBelow, ending, commands, inHalves, planOf}
+use Rattle.planner.specs.Plan.{Command, instruction, worth, setUp, counterAt, addressByte, cellsBelow, ending, commands, inHalves, planOf}
 use Rattle.planner.specs.Wish.{isWish, marked, follows}
 
 -- what the last run leaves

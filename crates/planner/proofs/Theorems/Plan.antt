@@ -11,7 +11,7 @@ use borrow.Author.Tests.{not-false}
 use Rattle.controller.proofs.Laws.Choice.{cond-elim}
 use lib.ListN.{length, getD, drop, replicate}
 use Rattle.controller.specs.Bus.{whole, badTransfer, mustWait, noHalf, decided, ordered}
-use Rattle.controller.specs.Cells.{placeOf, byteAt, onCell, wrapped, stepped, lineLength, cellOfAdd, addOfCell, cellOfAcg, addressOf}
+use Rattle.controller.specs.Cells.{placeOf, byteAt, onCell, wrapped, stepped, lineLength, cellOfAdd, addOfCell, cellOfAcg, acgOfCell, addressSet, addressOf}
 use Rattle.controller.specs.Decision.{numberOf, performed, blanked}
 use Rattle.controller.specs.Execute.{shortTime, longTime, cursorAt, addressed, executed, carried, written, readOut, statusOf, completed}
 use Rattle.controller.specs.Halves.{begun, firstHalf, crossed, secondHalf, narrow, accepted}
@@ -26,7 +26,7 @@ use Rattle.planner.specs.declared.bus.Planned.{Planned}
 use Rattle.planner.specs.declared.wish.Wish.{Wish}
 use Rattle.planner.specs.Bus.{Reply, wanted, replyTo, laidOut}
 use Rattle.planner.specs.Demand.{halfWrite, excepted}
-use Rattle.planner.specs.Plan.{Command, worth, addressByte, cell, cellsBelow, commands, timeOf, inHalves, planOf, encoded}
+use Rattle.planner.specs.Plan.{Command, worth, counterAt, addressByte, cell, cellsBelow, commands, timeOf, inHalves, planOf, encoded}
 use Rattle.planner.specs.Theorems.{AtMost468, Reaches468, P12, ExceptionNeeded, BoardSendsPlan, all, readBack}
 use Rattle.planner.specs.Wish.{marksFit, isWish, marked, follows}
 
@@ -34,11 +34,11 @@ pub at-most-468 : AtMost468
 at-most-468 = plan-bound
 
 pub reaches-468 : Reaches468
-unfolding isWish marksFit lineLength worth addressByte addOfCell cell cellsBelow commands timeOf inHalves planOf marked follows shortTime longTime
+unfolding isWish marksFit lineLength worth addressByte counterAt addressSet addOfCell acgOfCell cell cellsBelow commands timeOf inHalves planOf marked follows shortTime longTime
 reaches-468 = (refl, refl)
 
 pub p12 : P12
-unfolding worth addressByte addOfCell cell cellsBelow commands timeOf inHalves planOf marked follows shortTime longTime
+unfolding worth addressByte counterAt addressSet addOfCell acgOfCell cell cellsBelow commands timeOf inHalves planOf marked follows shortTime longTime
 p12 values = refl
 
 -- a controller that waits for the second half of a data write to display cell 0
@@ -46,7 +46,7 @@ waiting : State
 waiting = record { rec = withHalf (DataWrite 4) (withBusy 0 (withFunction false (record { n = false; f = false }) resetRecord)); mem = all 0x20 }
 
 pub exception-needed : ExceptionNeeded
-unfolding waiting excepted halfWrite worth addressByte addOfCell cell cellsBelow commands timeOf inHalves planOf marked follows shortTime longTime ran decided ordered whole sound halfSound onCell resetTime resetRecord badTransfer mustWait noHalf accepted begun narrow firstHalf secondHalf crossed numberOf completed executed decoded bit written carried stepped wrapped placeOf byteAt readOut statusOf addressOf cellOfAdd cellOfAcg addressed cursorAt performed blanked
+unfolding waiting excepted halfWrite worth addressByte counterAt addressSet addOfCell acgOfCell cell cellsBelow commands timeOf inHalves planOf marked follows shortTime longTime ran decided ordered whole sound halfSound onCell resetTime resetRecord badTransfer mustWait noHalf accepted begun narrow firstHalf secondHalf crossed numberOf completed executed decoded bit written carried stepped wrapped placeOf byteAt readOut statusOf addressOf cellOfAdd cellOfAcg addressed cursorAt performed blanked
 exception-needed = (waiting, refl, refl, refl, refl, refl)
 
 -- every wait fits its four bytes

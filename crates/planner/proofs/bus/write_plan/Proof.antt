@@ -1,7 +1,7 @@
 -- `planner::bus::write_plan` meets its contract: the opening and the commands are the plan, and at most 468 records
 -- fit the buffer.
 -- Assumes nothing.
-use Rattle.planner.proofs.Laws.Wish.{wish-shift-small, wish-cursor}
+use Rattle.planner.proofs.Laws.Wish.{wish-shift-small}
 use Rattle.planner.proofs.Laws.Count.{cells-bound, plan-bound}
 use Rattle.planner.proofs.Laws.Written.{wrote-append, wrote-length, plan-laid}
 use Rattle.planner.specs.Plan.{instruction, opening, commands, encoded}
@@ -57,7 +57,6 @@ end-requires c κs =
       c .before .before .before .write-cells .ensures .at,
       wrote-length (c .before .before .before .write-cells .ensures),
       cells-bound (args .wish .function .n) (now (args .marks)) (now (args .values)) 144,
-      wish-cursor (args .wish) (now (args .marks)) (c .before .before .before .before .before .before .before .before .before .before .before .before .before .before .before .before .before .before .before .before .pre .0),
       c .before .before .before .before .before .before .before .shift-left .ensures .at,
       wrote-length (c .before .before .before .before .before .before .before .shift-left .ensures),
       length-replicate (c .before .before .before .before .before .before .before .before .before .before .before .before .before .before .before .before .before .before .before .before .args .wish .shift) (instruction 0x18),
