@@ -4,6 +4,7 @@
 use mathlib.Core.Bool.{Bool, true, false}
 use mathlib.Core.List.{List, _++_}
 use Prim.Native.Nat.{ℕ, _<_, _≤_}
+use lib.Dec.{eqb}
 use lib.ListN.{length, set, drop, replicate}
 use Rattle.controller.specs.declared.decision.Answer.{Answer}
 use Rattle.controller.specs.declared.decision.Answer.the-variants.{Done, Unsound, NotWhole, BadTransfer, Busy, FirstHalf, NoCell, StaleRead, CrossedHalves, CounterOff, BadSize, OutputShort, BadLine, NotWish}
@@ -30,6 +31,10 @@ numberOf BadSize = 10
 numberOf OutputShort = 11
 numberOf BadLine = 12
 numberOf NotWish = 13
+
+-- The answer is 0.
+abbrev pub isDone : Answer → Bool
+isDone answer = eqb (numberOf answer) 0
 
 -- All but 0, 5, 7 and 8 are refusals.
 unfoldable pub isRefusal : Answer → Bool

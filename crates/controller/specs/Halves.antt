@@ -13,7 +13,7 @@ use Rattle.controller.specs.declared.execute.Transfer.the-variants.{Inst
 use Rattle.controller.specs.declared.«record».Half.{Half}
 use Rattle.controller.specs.declared.«record».Half.the-variants.{Empty, InstructionWrite, DataWrite, StatusRead, DataRead}
 use Rattle.controller.specs.declared.«record».Record.{Record}
-use Rattle.controller.specs.Decision.{numberOf}
+use Rattle.controller.specs.Decision.{isDone}
 use Rattle.controller.specs.Execute.{completed, statusOf}
 use Rattle.controller.specs.Record.{withHalf}
 
@@ -43,7 +43,7 @@ firstHalf (Read byte) rec = firstTold (highHalf byte) (DataRead byte) rec
 
 -- A second half of another kind turns 0 into 8; 6 and 7 stay.
 unfoldable pub crossed : Bool → Answer → Answer
-crossed same answer = cond same answer (cond (eqb (numberOf answer) 0) CrossedHalves answer)
+crossed same answer = cond same answer (cond (isDone answer) CrossedHalves answer)
 
 -- The second half returns the low half.
 abbrev pub ended : Bool → Decision → Decision

@@ -18,14 +18,15 @@ use crate::record::after_reset;
 use crate::record::after_wait;
 use crate::record::is_sound;
 
-fn is_whole(memory: &[u8]) -> bool
+// Whether a lent memory, or the marks or values of a wish, are 144 bytes.
+pub fn is_whole(memory: &[u8]) -> bool
     ensures { λ r. ⌜ r ≡ whole (now (memory .entry)) ⌝ }
 {
     memory.len() == 144
 }
 
 // A kind above 3, or a read with a byte.
-fn is_bad(kind: u8, byte: u8) -> bool
+pub fn is_bad(kind: u8, byte: u8) -> bool
     ensures { λ r. ⌜ r ≡ badTransfer kind byte ⌝ }
 {
     3 < kind || (2 <= kind && 0 < byte)

@@ -2,7 +2,7 @@
 ghost use mathlib.Core.Path.{_≡_};
 ghost use Prim.Native.Nat.{_≤_};
 ghost use lib.ListN.{length};
-ghost use Rattle.controller.specs.Decision.{Fits, blanked, done, numberOf, outcomeOf, performed, refused};
+ghost use Rattle.controller.specs.Decision.{Fits, blanked, done, isDone, numberOf, outcomeOf, performed, refused};
 use crate::record::Record;
 
 // A name for each row of the table "What each number says".
@@ -65,6 +65,13 @@ pub fn number(answer: Answer) -> u8
         Answer::BadLine => 12,
         Answer::NotWish => 13,
     }
+}
+
+// Whether the answer is 0.
+pub fn is_done(answer: Answer) -> bool
+    ensures { λ r. ⌜ r ≡ isDone answer ⌝ }
+{
+    number(answer) == 0
 }
 
 pub fn refuse(answer: Answer, rec: Record) -> Decision

@@ -7,7 +7,7 @@ ghost use Rattle.controller.specs.Record.{FourBits, Ready};
 use crate::decision::Answer;
 use crate::decision::Decision;
 use crate::decision::Effect;
-use crate::decision::number;
+use crate::decision::is_done;
 use crate::execute::Transfer;
 use crate::execute::complete;
 use crate::execute::status;
@@ -63,7 +63,7 @@ fn cross(same: bool, answer: Answer) -> Answer
     if same {
         return answer;
     }
-    if number(answer) == 0 {
+    if is_done(answer) {
         return Answer::CrossedHalves;
     }
     answer

@@ -11,6 +11,8 @@ mod instruction;
 mod loan;
 mod record;
 
+pub use bus::is_bad;
+pub use bus::is_whole;
 pub use bus::reset;
 pub use bus::transfer;
 pub use cells::Acg;
@@ -20,6 +22,7 @@ pub use cells::address_set;
 pub use cells::line_length;
 pub use decision::Answer;
 pub use decision::Outcome;
+pub use decision::is_done;
 pub use decision::number;
 pub use execute::long_time;
 pub use execute::short_time;

@@ -2,9 +2,7 @@
 ghost use mathlib.Core.Bool.{true};
 ghost use mathlib.Core.Path.{_≡_};
 ghost use Prim.Native.Nat.{_≤_, _<_};
-ghost use lib.Dec.{eqb};
 ghost use lib.ListN.{length};
-ghost use Rattle.controller.specs.Decision.{numberOf};
 ghost use Rattle.controller.specs.Record.{sound};
 ghost use Rattle.glass.specs.Picture.{painted};
 ghost use Rattle.drawing.specs.Drawing.{Drawn, bitmapByte, bitmapLength, Taken, byteAt, cellsByte, frameLength, frameWidth, headByte, lengthOf, listingByte, textByte};
@@ -21,7 +19,7 @@ use crate::listing::listing_at;
 use crate::state::state_byte;
 use controller::Answer;
 use controller::Record;
-use controller::number;
+use controller::is_done;
 use glass::picture;
 use glass::rows_of;
 use lines::Written;
@@ -176,12 +174,6 @@ fn fill(
         out[place] = byte_at(form, dots, memory, rec, size, place);
         place += 1;
     }
-}
-
-fn is_done(answer: Answer) -> bool
-    ensures { λ r. ⌜ r ≡ eqb (numberOf answer) 0 ⌝ }
-{
-    number(answer) == 0
 }
 
 fn refused(answer: Answer) -> Written

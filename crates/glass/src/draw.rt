@@ -5,7 +5,6 @@ ghost use Prim.Native.Nat.{_*_, _+_, _≤_, _<_};
 ghost use lib.ListN.{length};
 ghost use Rattle.glass.specs.Geometry.{Within, height};
 ghost use Rattle.glass.specs.Picture.{Drawable, Pictured, byteAt, cellRow, covered, dotsAt, isOn, marked, painted, patternRow, rowOf, shownRow};
-ghost use Rattle.controller.specs.Bus.{whole};
 use crate::font::table;
 use crate::font::table_row;
 use crate::geometry::Shown;
@@ -17,6 +16,7 @@ use controller::Control;
 use controller::Counter;
 use controller::Record;
 use controller::is_sound;
+use controller::is_whole;
 
 // One row of the pattern that a code 00h to 0Fh shows.
 fn pattern_row(memory: &[u8], code: u8, row: usize) -> u8
@@ -161,12 +161,6 @@ fn draw(
         draw_row(shapes, rec, memory, lit, columns, at, out);
         at += 1;
     }
-}
-
-fn is_whole(memory: &[u8]) -> bool
-    ensures { λ r. ⌜ r ≡ whole (now (memory .entry)) ⌝ }
-{
-    memory.len() == 144
 }
 
 // Draws what the panel shows into the first lines x 8 x columns bytes of the output, or refuses and leaves the output as

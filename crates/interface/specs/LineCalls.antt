@@ -3,11 +3,11 @@
 use mathlib.Core.Bool.{cond, not}
 use mathlib.Core.List.{List}
 use Prim.Native.Nat.{ℕ, _+_, _*_}
-use lib.Dec.{eqb, ltb}
+use lib.Dec.{ltb}
 use lib.ListN.{length}
 use Rattle.controller.specs.declared.decision.Answer.{Answer}
 use Rattle.controller.specs.declared.decision.Answer.the-variants.{OutputShort}
-use Rattle.controller.specs.Decision.{numberOf}
+use Rattle.controller.specs.Decision.{isDone, numberOf}
 use Rattle.lines.specs.declared.reader.Line.{Line}
 use Rattle.lines.specs.Reading.{lineOf}
 use Rattle.lines.specs.Writing.{Writing, lineWriting, onto}
@@ -33,7 +33,7 @@ declined answer out = record { returned = numberOf answer + 256 * 0; buffer = ou
 -- A line that was read, the refusals in their order: 12, then 11. Six bytes are wanted.
 unfoldable pub stored : Line → List ℕ → Filling
 stored line out =
-    cond (not (eqb (numberOf (line .answer)) 0)) (declined (line .answer) out)
+    cond (not (isDone (line .answer))) (declined (line .answer) out)
     (cond (ltb (length out) 6) (declined OutputShort out)
     (record { returned = numberOf (line .answer) + 256 * line .length; buffer = onto (sixOf line) out }))
 

@@ -1,7 +1,7 @@
 // Reset and transfer over a record of 24 bytes and a memory of 144.
 ghost use mathlib.Core.Path.{_≡_};
 ghost use lib.ListN.{length};
-ghost use Rattle.controller.specs.Bus.{decided, resetDecided, whole};
+ghost use Rattle.controller.specs.Bus.{decided, resetDecided};
 ghost use Rattle.interface.specs.ControllerCalls.{Left, Meets, callOf, isRecordLong, resetCall, transferCall};
 ghost use Rattle.interface.specs.RecordBytes.{recordFrom};
 use crate::record_bytes::ReadRecord;
@@ -11,6 +11,7 @@ use crate::record_bytes::write_record;
 use crate::told::returned;
 use controller::Outcome;
 use controller::Record;
+use controller::is_whole;
 use controller::reset;
 use controller::transfer;
 
@@ -63,12 +64,6 @@ fn is_record_long(bytes: &[u8]) -> bool
     ensures { λ r. ⌜ r ≡ isRecordLong (now (bytes .entry)) ⌝ }
 {
     bytes.len() == 24
-}
-
-pub fn is_whole(memory: &[u8]) -> bool
-    ensures { λ r. ⌜ r ≡ whole (now (memory .entry)) ⌝ }
-{
-    memory.len() == 144
 }
 
 // A reset over 24 bytes, whatever they say.

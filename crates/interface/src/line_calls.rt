@@ -1,16 +1,14 @@
 // Session lines, written and read.
 ghost use mathlib.Core.Path.{_≡_};
 ghost use Prim.Native.Nat.{_≤_};
-ghost use lib.Dec.{eqb};
 ghost use lib.ListN.{length};
-ghost use Rattle.controller.specs.Decision.{numberOf};
 ghost use Rattle.lines.specs.Writing.{onto};
 ghost use Rattle.interface.specs.Filling.{Fills};
 ghost use Rattle.interface.specs.LineCalls.{readCall, sixOf, stored, writeCall};
 use crate::told::counted;
 use crate::told::returned;
 use controller::Answer;
-use controller::number;
+use controller::is_done;
 use lines::Line;
 use lines::read_line;
 use lines::write_line;
@@ -23,12 +21,6 @@ pub extern "C" fn yaropesk_write_line(kind: u8, byte: u8, wait: u32, out: &mut [
     let written = write_line(kind, byte, wait, out);
     let answer = written.answer;
     counted(answer, written.length)
-}
-
-fn is_done(answer: Answer) -> bool
-    ensures { λ r. ⌜ r ≡ eqb (numberOf answer) 0 ⌝ }
-{
-    number(answer) == 0
 }
 
 // Six bytes: kind, byte, wait little-endian.

@@ -4,10 +4,10 @@ ghost use Rattle.controller.specs.Decision.{numberOf};
 ghost use Rattle.planner.specs.Bus.{replyTo};
 ghost use Rattle.interface.specs.Filling.{Fills};
 ghost use Rattle.interface.specs.PlanCalls.{planCall, planningOf, wishless};
-use crate::controller_calls::is_whole;
 use crate::told::counted;
 use crate::wish_bytes::ReadWish;
 use crate::wish_bytes::read_wish;
+use controller::is_whole;
 use planner::Wish;
 use planner::plan;
 

@@ -2,12 +2,12 @@
 ghost use mathlib.Core.Path.{_≡_};
 ghost use Prim.Native.Nat.{_<_, _≤_};
 ghost use lib.ListN.{drop};
-ghost use Rattle.controller.specs.Bus.{badTransfer};
 ghost use Rattle.lines.specs.Line.{waitLimit};
 ghost use Rattle.lines.specs.Reading.{badLine, byteAt, byteStands, completed, kindStands, lineOf, mayFollow, restOf, waitOf, withWait};
 use crate::digits::kind_of;
 use crate::digits::worth_of;
 use controller::Answer;
+use controller::is_bad;
 
 // A line as it was read: the transfer, and the line's length. A refusal has zeros for all of it.
 pub struct Line {
@@ -112,13 +112,6 @@ fn with_wait(kind: u8, byte: u8, wait: Wait) -> Line
         },
         Wait::Bad => bad_line(),
     }
-}
-
-// A kind above 3, or a read with a byte.
-pub fn is_bad(kind: u8, byte: u8) -> bool
-    ensures { λ r. ⌜ r ≡ badTransfer kind byte ⌝ }
-{
-    3 < kind || (2 <= kind && 0 < byte)
 }
 
 // `S` and `R` carry 00.

@@ -9,8 +9,8 @@ ghost use Rattle.lines.specs.Writing.{Meets, lineWriting, wanting};
 use crate::fields::put_byte;
 use crate::fields::put_kind;
 use crate::fields::put_number;
-use crate::reader::is_bad;
 use controller::Answer;
+use controller::is_bad;
 
 // What a call that writes text is told: the length of what was written, 0 where it was refused.
 pub struct Written {

@@ -3,7 +3,6 @@ ghost use mathlib.Core.Bool.{true};
 ghost use mathlib.Core.Path.{_≡_};
 ghost use Prim.Native.Nat.{_≤_};
 ghost use lib.ListN.{length};
-ghost use Rattle.controller.specs.Bus.{whole};
 ghost use Rattle.planner.specs.Bus.{Meets, laidOut, replyTo, wanted};
 ghost use Rattle.planner.specs.Plan.{planOf};
 ghost use Rattle.planner.specs.Wish.{isWish};
@@ -15,17 +14,12 @@ use crate::commands::write_cells;
 use crate::wish::Wish;
 use crate::wish::is_wish;
 use controller::Answer;
+use controller::is_whole;
 
 // What the caller is told: the answer, and how many records were written.
 pub struct Planned {
     pub answer: Answer,
     pub count: usize,
-}
-
-fn is_whole(cells: &[u8]) -> bool
-    ensures { λ r. ⌜ r ≡ whole (now (cells .entry)) ⌝ }
-{
-    cells.len() == 144
 }
 
 fn turn_down(answer: Answer) -> Planned

@@ -5,12 +5,12 @@ use mathlib.Core.List.{List, [], _∷_, _++_}
 use Prim.Native.Nat.{ℕ, _+_, _*_}
 use lib.ListN.{length, replicate}
 use Rattle.controller.specs.declared.decision.Answer.{Answer}
-use Rattle.controller.specs.Decision.{numberOf}
+use Rattle.controller.specs.Decision.{isDone, numberOf}
 use Rattle.controller.specs.Record.{resetRecord}
 use Rattle.controller.specs.Runs.{State, Told, heard, ran}
 use Rattle.lines.specs.Rows.{header, row}
 use Rattle.lines.specs.Writing.{Writing, wanting}
-use Rattle.player.specs.Session.{Session, isDone, sessionOf}
+use Rattle.player.specs.Session.{Session, sessionOf}
 
 -- A row for each transfer, numbered from here on.
 unfoldable pub rowsFrom : ℕ → List Told → List ℕ

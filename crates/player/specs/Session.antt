@@ -1,13 +1,12 @@
 -- A session's text as the transfers that it says (document 01, "Session lines").
 -- Assumes nothing.
-use mathlib.Core.Bool.{Bool, cond}
+use mathlib.Core.Bool.{cond}
 use mathlib.Core.List.{List, [], _∷_}
 use Prim.Native.Nat.{ℕ, zero, suc}
-use lib.Dec.{eqb}
 use lib.ListN.{length, drop}
 use Rattle.controller.specs.declared.decision.Answer.{Answer}
 use Rattle.controller.specs.declared.decision.Answer.the-variants.{Done}
-use Rattle.controller.specs.Decision.{numberOf}
+use Rattle.controller.specs.Decision.{isDone}
 use Rattle.controller.specs.Runs.{Sent}
 use Rattle.lines.specs.declared.reader.Line.{Line}
 use Rattle.lines.specs.Reading.{lineOf}
@@ -28,10 +27,6 @@ following t s = record { sent = t ∷ s .sent; end = s .end }
 -- The transfer that a line says.
 abbrev pub sentOf : Line → Sent
 sentOf line = record { kind = line .kind; byte = line .byte; wait = line .wait }
-
--- The answer is 0.
-unfoldable pub isDone : Answer → Bool
-isDone answer = eqb (numberOf answer) 0
 
 -- The lines of a text, each where the one before it ended, up to a bad one. The first argument, the text's length or more,
 -- only bounds the recursion: every line has some bytes.

@@ -7,7 +7,6 @@ ghost use lib.ListN.{length};
 ghost use Rattle.controller.specs.Record.{sound};
 ghost use Rattle.lines.specs.Rows.{rowSize};
 ghost use Rattle.lines.specs.Writing.{Meets};
-ghost use Rattle.player.specs.Session.{isDone};
 ghost use Rattle.player.specs.Report.{playing};
 ghost use Rattle.player.specs.Playing.{Played, Plays, anyRecord};
 use controller::Answer;
@@ -17,6 +16,7 @@ use controller::Entry;
 use controller::Function;
 use controller::Half;
 use controller::Record;
+use controller::is_done;
 use controller::number;
 use controller::reset;
 use controller::transfer;
@@ -30,12 +30,6 @@ use lines::write_row;
 pub struct Step {
     pub rec: Record,
     pub length: usize,
-}
-
-pub fn stands(answer: Answer) -> bool
-    ensures { λ r. ⌜ r ≡ isDone answer ⌝ }
-{
-    number(answer) == 0
 }
 
 // Sends the transfer of a line and writes its row.
@@ -65,7 +59,7 @@ fn play_rows(text: &[u8], first: Record, memory: &mut [u8], out: &mut [u8]) -> u
     while from < text.len() {
         let line = read_line(&text[from..]);
         let answer = line.answer;
-        if !stands(answer) {
+        if !is_done(answer) {
             let written = write_row(row, number(answer), 0, rec.busy, &mut out[at..]);
             return at + written.length;
         }

@@ -2,9 +2,9 @@
 ghost use mathlib.Core.Path.{_≡_};
 ghost use Rattle.player.specs.Standing.{standing};
 use crate::session::any_record;
-use crate::session::stands;
 use controller::Answer;
 use controller::Record;
+use controller::is_done;
 use controller::reset;
 use controller::transfer;
 use lines::read_line;
@@ -30,7 +30,7 @@ pub fn play_through(text: &[u8]) -> Standing
     while from < text.len() {
         let line = read_line(&text[from..]);
         let answer = line.answer;
-        if !stands(answer) {
+        if !is_done(answer) {
             return Standing {
                 answer,
                 number,

@@ -33,6 +33,9 @@ each-determined =
       reset = λ rec mem. two _ _ _ (record { told = refl; memory = refl }) (λ a l is. (is .told, is .memory));
       is-sound = λ rec. one _;
       number = λ answer. one _;
+      is-whole = λ mem. one _;
+      is-bad = λ kind byte. one _;
+      is-done = λ answer. one _;
       address-set = λ n counter. one _;
       line-length = λ n. one _;
       short-time = one _;

@@ -5,10 +5,10 @@ use mathlib.Core.Bool.{Bool}
 use mathlib.Core.List.{List}
 use mathlib.Core.Path.{_≡_}
 use Prim.Native.Nat.{ℕ}
-use Rattle.controller.specs.Bus.{decided, resetDecided}
+use Rattle.controller.specs.Bus.{whole, badTransfer, decided, resetDecided}
 use Rattle.controller.specs.Bus
 use Rattle.controller.specs.Cells.{lineLength, addressSet}
-use Rattle.controller.specs.Decision.{numberOf}
+use Rattle.controller.specs.Decision.{numberOf, isDone}
 use Rattle.controller.specs.Execute.{shortTime, longTime}
 use Rattle.controller.specs.Record.{sound}
 use Rattle.controller.specs.declared.cells.Counter.{Counter}
@@ -54,6 +54,9 @@ pub record EachDetermined : Type 0 where
       → ExactlyOne (λ (x : Outcome × List ℕ). Rattle.controller.specs.Bus.Meets (resetDecided rec mem) mem (x .0) (x .1))
   pub is-sound : (rec : Record) → ExactlyOne (λ (x : Bool). x ≡ sound rec)
   pub number : (answer : Answer) → ExactlyOne (λ (x : ℕ). x ≡ numberOf answer)
+  pub is-whole : (mem : List ℕ) → ExactlyOne (λ (x : Bool). x ≡ whole mem)
+  pub is-bad : (kind byte : ℕ) → ExactlyOne (λ (x : Bool). x ≡ badTransfer kind byte)
+  pub is-done : (answer : Answer) → ExactlyOne (λ (x : Bool). x ≡ isDone answer)
   pub address-set : (n : Bool) (counter : Counter) → ExactlyOne (λ (x : ℕ). x ≡ addressSet n counter)
   pub line-length : (n : Bool) → ExactlyOne (λ (x : ℕ). x ≡ lineLength n)
   pub short-time : ExactlyOne (λ (x : ℕ). x ≡ shortTime)

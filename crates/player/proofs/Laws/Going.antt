@@ -7,7 +7,7 @@ use native.Mathlib.Omega.{arith}
 use mathlib.Core.Bool.{true, false}
 use lib.ListN.{length, take, drop, length-drop, length-append, drop-of-length-le}
 use lib.Seq.{take-at, drop-at, take-add, drop-drop, take-append-seam, drop-append-seam, length-take-le, take-length, take-all, drop-length}
-use Rattle.controller.specs.Decision.{numberOf}
+use Rattle.controller.specs.Decision.{isDone, numberOf}
 use borrow.Rule.Slice.PartMut.{putMid, post-is}
 use Rattle.controller.specs.declared.decision.Answer.{Answer}
 use Rattle.controller.specs.declared.decision.Answer.the-variants.{Done, Unsound, NotWhole, BadTransfer, Busy, FirstHalf, NoCell, StaleRead, CrossedHalves, CounterOff, BadSize, OutputShort, BadLine, NotWish}
@@ -20,7 +20,7 @@ use Rattle.lines.proofs.Theorems.Read.{read-is-sayable}
 use Rattle.controller.specs.Runs.{State, decidedOf, after, toldOf}
 use Rattle.lines.specs.Reading.{lineOf}
 use Rattle.lines.specs.Rows.{row, rowSize}
-use Rattle.player.specs.Session.{sentOf, isDone, sessionOf}
+use Rattle.player.specs.Session.{sentOf, sessionOf}
 use Rattle.player.specs.Report.{rowsOf}
 use Rattle.lines.specs.declared.reader.Line.{Line}
 use Rattle.player.specs.declared.session.Step.{Step}

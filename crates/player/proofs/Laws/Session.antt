@@ -9,19 +9,19 @@ use native.Mathlib.Nat.{add-zero}
 use lib.ListN.{length, drop, length-drop}
 use Rattle.controller.specs.declared.decision.Answer.{Answer}
 use Rattle.controller.specs.declared.decision.Answer.the-variants.{Done, Unsound, NotWhole, BadTransfer, Busy, FirstHalf, NoCell, StaleRead, CrossedHalves, CounterOff, BadSize, OutputShort, BadLine, NotWish}
-use Rattle.controller.specs.Decision.{numberOf}
+use Rattle.controller.specs.Decision.{isDone, numberOf}
 use Rattle.controller.specs.Runs.{State, Sent, decidedOf, after, toldOf, heard, ran}
 use Rattle.lines.specs.Reading.{lineOf}
 use Rattle.lines.specs.Rows.{row}
 use Rattle.lines.proofs.Laws.Digits.{either}
 use Rattle.lines.proofs.Theorems.Read.{read-is-sayable}
-use Rattle.player.specs.Session.{Session, ending, following, sentOf, isDone, readUpTo, sessionOf}
+use Rattle.player.specs.Session.{Session, ending, following, sentOf, readUpTo, sessionOf}
 use Rattle.player.specs.Report.{rowsFrom, lastRow, rowsOf}
 use Rattle.player.specs.Playing.{rowAt}
 
 -- only Done has the number 0
 pub done-is : (answer : Answer) → isDone answer ≡ true → answer ≡ Done
-unfolding isDone numberOf
+unfolding numberOf
 done-is Done e = refl
 done-is Unsound e = absurd (false≢true e)
 done-is NotWhole e = absurd (false≢true e)
@@ -82,7 +82,7 @@ session-bad [] some e = absurd (omega arith)
 session-bad (byte ∷ rest) some e = simp e
 
 pub rows-none : (number : ℕ) (state : State) → rowsOf number state (ending Done) ≡ []
-unfolding rowsOf rowsFrom heard lastRow isDone numberOf
+unfolding rowsOf rowsFrom heard lastRow numberOf
 rows-none number state = refl
 
 pub rows-last : (number : ℕ) (state : State) (answer : Answer) → isDone answer ≡ false

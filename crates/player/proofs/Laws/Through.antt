@@ -14,9 +14,10 @@ use Rattle.controller.specs.declared.decision.Outcome.{Outcome}
 use Rattle.controller.specs.Bus.{Meets}
 use Rattle.controller.specs.Runs.{State, Sent, decidedOf, after, ran}
 use Rattle.controller.proofs.Laws.Memory.{performed-length}
+use Rattle.controller.specs.Decision.{isDone}
 use Rattle.lines.specs.declared.reader.Line.{Line}
 use Rattle.lines.specs.Reading.{lineOf}
-use Rattle.player.specs.Session.{Session, ending, following, sentOf, isDone, sessionOf}
+use Rattle.player.specs.Session.{Session, ending, following, sentOf, sessionOf}
 use Rattle.player.specs.Report.{start}
 use Rattle.player.specs.Standing.{leaving, standing}
 use Rattle.player.proofs.Laws.Going.{tail}

@@ -9,7 +9,7 @@ use native.Mathlib.Omega.{arith}
 use lib.ListN.{length, drop, length-append, length-drop}
 use lib.Seq.{drop-append-seam}
 use Rattle.controller.specs.declared.decision.Answer.the-variants.{Done, BadLine}
-use Rattle.controller.specs.Decision.{numberOf}
+use Rattle.controller.specs.Decision.{isDone, numberOf}
 use Rattle.controller.specs.Runs.{Sent}
 use Rattle.lines.specs.declared.reader.Line.{Line}
 use Rattle.lines.specs.Line.{line}
@@ -18,13 +18,13 @@ use Rattle.lines.proofs.Laws.Digits.{either}
 use Rattle.lines.proofs.Laws.Lengths.{line-length}
 use Rattle.lines.proofs.Theorems.Written.{written-reads-back}
 use Rattle.lines.proofs.Theorems.Read.{reader-answers}
-use Rattle.player.specs.Session.{Session, following, sentOf, isDone, sessionOf}
+use Rattle.player.specs.Session.{Session, following, sentOf, sessionOf}
 use Rattle.player.specs.Report.{lastRow, rowsOf, report}
 use Rattle.player.specs.Theorems.{linesOf, AllSayable, SessionReadsBack, ReportTells, SessionEnds}
 use Rattle.player.proofs.Laws.Session.{line-long, session-none, session-more, session-bad}
 
 is-done : isDone Done ≡ true
-unfolding isDone numberOf
+unfolding numberOf
 is-done = refl
 
 pub session-reads-back : SessionReadsBack

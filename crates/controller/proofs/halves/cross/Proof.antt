@@ -1,7 +1,7 @@
 -- `controller::halves::cross` meets its contract: at each return what led there says which case of `crossed` holds.
 -- Assumes nothing.
 use Rattle.controller.specs.Halves.{crossed}
-use borrow.Author.Tests.{eq-eqb, ne-eqb}
+use mathlib.Core.Path.{sym, _∙_}
 use borrow.Author.Needs.{needs}
 use Rattle.controller.proofs.halves.cross.Statement.{statement}
 use Rattle.controller.proofs.halves.cross.Tie as tie
@@ -10,16 +10,16 @@ returns : tie.Need-returns
 unfolding crossed
 returns c = simp (c .if1 .taken)
 
-number-requires : tie.Need-number-requires
-number-requires c κs = search needs
+is-done-requires : tie.Need-is-done-requires
+is-done-requires c κs = search needs
 
 returns-2 : tie.Need-returns-2
 unfolding crossed
-returns-2 c = simp (eq-eqb _ _ (rw (c .before .number .ensures) at (c .if2 .taken)), c .before .before .if1 .left)
+returns-2 c = simp (sym (c .before .is-done .ensures) ∙ c .if2 .taken, c .before .before .if1 .left)
 
 returns-3 : tie.Need-returns-3
 unfolding crossed
-returns-3 c = simp (ne-eqb _ _ (rw (c .before .number .ensures) at (c .if2 .left)), c .before .before .if1 .left)
+returns-3 c = simp (sym (c .before .is-done .ensures) ∙ c .if2 .left, c .before .before .if1 .left)
 
 pub cross-spec : {M : Type 1} → statement M
-cross-spec = tie.close (tie.spec returns number-requires returns-2 returns-3)
+cross-spec = tie.close (tie.spec returns is-done-requires returns-2 returns-3)

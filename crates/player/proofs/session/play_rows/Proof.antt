@@ -35,8 +35,8 @@ part-read-line-end c = search needs
 read-line-requires : tie.Need-read-line-requires Inv-loop μ-loop
 read-line-requires c κs = search needs
 
-stands-requires : tie.Need-stands-requires Inv-loop μ-loop
-stands-requires c κs = search needs
+is-done-requires : tie.Need-is-done-requires Inv-loop μ-loop
+is-done-requires c κs = search needs
 
 number-requires : tie.Need-number-requires Inv-loop μ-loop
 number-requires c κs = search needs
@@ -62,7 +62,7 @@ add-result c =
     let start = loop .before .before .before .before in
     let stopped =
     line-stops (loop .loop .inv .1) (read .before .before .loop-test .taken) (omega arith) (start .pre .1) (read .read-line .ensures)
-    (sym (asked .before .stands .ensures) ∙ not-true _ (asked .if1 .taken)) (write .before .before .number .ensures) (write .write-row .ensures) in
+    (sym (asked .before .is-done .ensures) ∙ not-true _ (asked .if1 .taken)) (write .before .before .number .ensures) (write .write-row .ensures) in
     omega (arith, stopped .room)
 
 same-length : tie.Need-same-length Inv-loop μ-loop
@@ -77,7 +77,7 @@ same-length-2 c =
     let start = loop .before .before .before .before in
     let stopped =
     line-stops (loop .loop .inv .1) (read .before .before .loop-test .taken) (omega arith) (start .pre .1) (read .read-line .ensures)
-    (sym (asked .before .stands .ensures) ∙ not-true _ (asked .if1 .taken)) (write .before .before .number .ensures) (write .write-row .ensures) in
+    (sym (asked .before .is-done .ensures) ∙ not-true _ (asked .if1 .taken)) (write .before .before .number .ensures) (write .write-row .ensures) in
     stopped .same
 
 returns : tie.Need-returns Inv-loop μ-loop
@@ -89,7 +89,7 @@ returns c =
     let start = loop .before .before .before .before in
     let stopped =
     line-stops (loop .loop .inv .1) (read .before .before .loop-test .taken) (omega arith) (start .pre .1) (read .read-line .ensures)
-    (sym (asked .before .stands .ensures) ∙ not-true _ (asked .if1 .taken)) (write .before .before .number .ensures) (write .write-row .ensures) in
+    (sym (asked .before .is-done .ensures) ∙ not-true _ (asked .if1 .taken)) (write .before .before .number .ensures) (write .write-row .ensures) in
     record { within = stopped .room; rows = stopped .rows; buffer = stopped .buffer }
 
 sub-play-line : tie.Need-sub-play-line Inv-loop μ-loop
@@ -117,7 +117,7 @@ add-at c =
     let start = loop .before .before .before .before in
     let went =
     line-goes (loop .loop .inv .1) (read .before .before .loop-test .taken) (omega arith) (start .pre .1) (read .read-line .ensures)
-    (sym (asked .before .stands .ensures) ∙ not-false _ (asked .if1 .left)) (play .play-line .ensures) in
+    (sym (asked .before .is-done .ensures) ∙ not-false _ (asked .if1 .left)) (play .play-line .ensures) in
     omega (arith, went .room)
 
 add-from : tie.Need-add-from Inv-loop μ-loop
@@ -129,7 +129,7 @@ add-from c =
     let start = loop .before .before .before .before in
     let went =
     line-goes (loop .loop .inv .1) (read .before .before .loop-test .taken) (omega arith) (start .pre .1) (read .read-line .ensures)
-    (sym (asked .before .stands .ensures) ∙ not-false _ (asked .if1 .left)) (play .play-line .ensures) in
+    (sym (asked .before .is-done .ensures) ∙ not-false _ (asked .if1 .left)) (play .play-line .ensures) in
     omega (arith, went .going .inside)
 
 add-row : tie.Need-add-row Inv-loop μ-loop
@@ -146,7 +146,7 @@ loop-less c =
     let start = loop .before .before .before .before in
     let went =
     line-goes (loop .loop .inv .1) (read .before .before .loop-test .taken) (omega arith) (start .pre .1) (read .read-line .ensures)
-    (sym (asked .before .stands .ensures) ∙ not-false _ (asked .if1 .left)) (play .play-line .ensures) in
+    (sym (asked .before .is-done .ensures) ∙ not-false _ (asked .if1 .left)) (play .play-line .ensures) in
     omega (arith, went .some, went .going .inside)
 
 loop-again : tie.Need-loop-again Inv-loop μ-loop
@@ -158,7 +158,7 @@ loop-again c =
     let start = loop .before .before .before .before in
     let went =
     line-goes (loop .loop .inv .1) (read .before .before .loop-test .taken) (omega arith) (start .pre .1) (read .read-line .ensures)
-    (sym (asked .before .stands .ensures) ∙ not-false _ (asked .if1 .left)) (play .play-line .ensures) in
+    (sym (asked .before .is-done .ensures) ∙ not-false _ (asked .if1 .left)) (play .play-line .ensures) in
     (play .play-line .kept .1 .1 .1 .0 ∙ loop .loop .inv .0, went .going)
 
 same-length-3 : tie.Need-same-length-3 Inv-loop μ-loop
@@ -185,7 +185,7 @@ play-rows-spec =
     part-read-line-start
     part-read-line-end
     read-line-requires
-    stands-requires
+    is-done-requires
     number-requires
     sub-write-row
     part-write-row-start

@@ -44,14 +44,14 @@ part-read-line-end c = search needs
 read-line-requires : tie.Need-read-line-requires Inv-loop μ-loop
 read-line-requires c κs = search needs
 
-stands-requires : tie.Need-stands-requires Inv-loop μ-loop
-stands-requires c κs = search needs
+is-done-requires : tie.Need-is-done-requires Inv-loop μ-loop
+is-done-requires c κs = search needs
 
 returns : tie.Need-returns Inv-loop μ-loop
 returns c =
     let read = c .before .before in
     through-stops (read .before .before .before .loop .inv) (read .before .before .loop-test .taken) (read .read-line .ensures)
-    (sym (c .before .stands .ensures) ∙ not-true _ (c .if1 .taken))
+    (sym (c .before .is-done .ensures) ∙ not-true _ (c .if1 .taken))
 
 slice-aggregate-transfer : tie.Need-slice-aggregate-transfer Inv-loop μ-loop
 slice-aggregate-transfer c = sym (c .before .before .before .before .before .before .loop .inv .long)
@@ -68,7 +68,7 @@ add-from c =
     let read = asked .before .before in
     let went =
     through-goes (loop .loop .inv) (read .before .before .loop-test .taken) (read .read-line .ensures)
-    (sym (asked .before .stands .ensures) ∙ not-false _ (asked .if1 .left)) (sent .transfer .ensures) in
+    (sym (asked .before .is-done .ensures) ∙ not-false _ (asked .if1 .left)) (sent .transfer .ensures) in
     omega (arith, went .1 .inside)
 
 add-number : tie.Need-add-number Inv-loop μ-loop
@@ -83,7 +83,7 @@ loop-less c =
     let read = asked .before .before in
     let went =
     through-goes (read .before .before .before .loop .inv) (read .before .before .loop-test .taken) (read .read-line .ensures)
-    (sym (asked .before .stands .ensures) ∙ not-false _ (asked .if1 .left)) (sent .transfer .ensures) in
+    (sym (asked .before .is-done .ensures) ∙ not-false _ (asked .if1 .left)) (sent .transfer .ensures) in
     omega (arith, went .0, went .1 .inside)
 
 loop-again : tie.Need-loop-again Inv-loop μ-loop
@@ -93,7 +93,7 @@ loop-again c =
     let read = asked .before .before in
     let went =
     through-goes (read .before .before .before .loop .inv) (read .before .before .loop-test .taken) (read .read-line .ensures)
-    (sym (asked .before .stands .ensures) ∙ not-false _ (asked .if1 .left)) (sent .transfer .ensures) in
+    (sym (asked .before .is-done .ensures) ∙ not-false _ (asked .if1 .left)) (sent .transfer .ensures) in
     went .1
 
 returns-2 : tie.Need-returns-2 Inv-loop μ-loop
@@ -113,7 +113,7 @@ play-through-spec =
     part-read-line-start
     part-read-line-end
     read-line-requires
-    stands-requires
+    is-done-requires
     returns
     slice-aggregate-transfer
     transfer-requires
