@@ -15,7 +15,7 @@ use Rattle.controller.specs.declared.«record».Half.{Half}
 use Rattle.controller.specs.declared.«record».Half.the-variants.{Empty, InstructionWrite, DataWrite, StatusRead, DataRead}
 use Rattle.controller.specs.declared.«record».Record.{Record}
 use Rattle.controller.specs.Cells.{onCell}
-use Rattle.controller.specs.Decision.{refused, performed, outcomeOf}
+use Rattle.controller.specs.Decision.{numberOf, refused, performed, outcomeOf}
 use Rattle.controller.specs.Halves.{accepted}
 use Rattle.controller.specs.Record.{sound, resetRecord, waited}
 
@@ -58,13 +58,16 @@ decided rec mem kind byte wait =
 unfoldable pub resetDecided : Record → List ℕ → Decision
 resetDecided rec mem = cond (whole mem) (record { answer = Done; byte = 0; rec = resetRecord; effect = Blank }) (refused NotWhole rec)
 
--- What `transfer` and `reset` promise of a decision: what is returned, and every byte of the memory.
+-- What `transfer` and `reset` promise of a decision: what is returned, its number in the table, and every byte of the memory.
 pub record Meets (d : Decision) (before : List ℕ) (returned : Outcome) (after : List ℕ) : Type 0 where
   pub told : returned ≡ outcomeOf d
+  pub number : numberOf (returned .answer) ≡ numberOf (d .answer)
   pub memory : after ≡ performed (d .effect) before
 
--- What `transfer_in` promises of a decision: what is told, the record left in the loan, and every byte of the memory.
+-- What `transfer_in` promises of a decision: what is told, its number in the table, the record left in the loan, and every byte of the
+-- memory.
 pub record MeetsIn (d : Decision) (before : List ℕ) (returned : Told) (lent : Record) (after : List ℕ) : Type 0 where
   pub told : returned ≡ record { answer = d .answer; byte = d .byte }
+  pub number : numberOf (returned .answer) ≡ numberOf (d .answer)
   pub left : lent ≡ d .rec
   pub memory : after ≡ performed (d .effect) before

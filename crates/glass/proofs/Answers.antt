@@ -46,22 +46,22 @@ drawable shapes rec mem t s w = record { table = ap length t ∙ font-length; sh
 module _ (rec : Record) (mem : List ℕ) (columns lines : ℕ) (lit : Bool) (out : List ℕ) where
   pub told-unsound : sound rec ≡ false → Pictured rec mem columns lines lit out Unsound out
   unfolding answered output isRefusal
-  told-unsound s = record { told = simp s; out = simp s }
+  told-unsound s = record { told = simp s; number = simp s; out = simp s }
 
   pub told-not-whole : sound rec ≡ true → whole mem ≡ false → Pictured rec mem columns lines lit out NotWhole out
   unfolding answered output isRefusal
-  told-not-whole s w = record { told = simp (s, w); out = simp (s, w) }
+  told-not-whole s w = record { told = simp (s, w); number = simp (s, w); out = simp (s, w) }
 
   pub told-bad-size : sound rec ≡ true → whole mem ≡ true → fitsGlass columns lines ≡ false → Pictured rec mem columns lines lit out BadSize out
   unfolding answered output isRefusal
-  told-bad-size s w g = record { told = simp (s, w, g); out = simp (s, w, g) }
+  told-bad-size s w g = record { told = simp (s, w, g); number = simp (s, w, g); out = simp (s, w, g) }
 
   pub told-short : sound rec ≡ true → whole mem ≡ true → fitsGlass columns lines ≡ true → length out < sizeOf (rec .function) columns lines → Pictured rec mem columns lines lit out OutputShort out
   unfolding answered output isRefusal
-  told-short s w g h = record { told = simp (s, w, g, lt-ltb _ _ h); out = simp (s, w, g, lt-ltb _ _ h) }
+  told-short s w g h = record { told = simp (s, w, g, lt-ltb _ _ h); number = simp (s, w, g, lt-ltb _ _ h); out = simp (s, w, g, lt-ltb _ _ h) }
 
   pub told-done : (shapes : List ℕ) (rows : ℕ) (after : List ℕ) → shapes ≡ font → sound rec ≡ true → whole mem ≡ true → fitsGlass columns lines ≡ true → rows ≡ height (rec .function) → lines * rows * columns ≤ length out → after ≡ painted (byteAt shapes rec mem lit columns) 0 (lines * rows * columns) out → Pictured rec mem columns lines lit out Done after
   unfolding answered output isRefusal
   told-done shapes rows after t s w g h room drawn =
       let fits : sizeOf (rec .function) columns lines ≤ length out = rw h at room in
-      record { told = simp (s, w, g, le-ltb _ _ fits); out = drawn ∙ simp (t, h, s, w, g, le-ltb _ _ fits) }
+      record { told = simp (s, w, g, le-ltb _ _ fits); number = simp (s, w, g, le-ltb _ _ fits); out = drawn ∙ simp (t, h, s, w, g, le-ltb _ _ fits) }

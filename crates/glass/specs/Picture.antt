@@ -14,7 +14,7 @@ use Rattle.controller.specs.declared.decision.Answer.the-variants.{Done, Unsoun
 use Rattle.controller.specs.declared.«record».Control.{Control}
 use Rattle.controller.specs.declared.«record».Record.{Record}
 use Rattle.controller.specs.Bus.{whole}
-use Rattle.controller.specs.Decision.{isRefusal}
+use Rattle.controller.specs.Decision.{numberOf, isRefusal}
 use Rattle.controller.specs.Record.{sound}
 use Rattle.glass.specs.declared.geometry.Shown.{Shown}
 use Rattle.glass.specs.declared.geometry.Shown.the-variants.{Cell, Undriven}
@@ -81,9 +81,10 @@ output rec mem columns lines lit out =
     cond (isRefusal (answered rec mem columns lines (length out))) out
     (painted (byteAt font rec mem lit columns) 0 (sizeOf (rec .function) columns lines) out)
 
--- What `picture` promises: the answer, and every byte of the output.
+-- What `picture` promises: the answer, its number in the table, and every byte of the output.
 pub record Pictured (rec : Record) (mem : List ℕ) (columns lines : ℕ) (lit : Bool) (before : List ℕ) (answer : Answer) (after : List ℕ) : Type 0 where
   pub told : answer ≡ answered rec mem columns lines (length before)
+  pub number : numberOf answer ≡ numberOf (answered rec mem columns lines (length before))
   pub out : after ≡ output rec mem columns lines lit before
 
 -- What the functions that draw lean on: of a sound record the shift, and the lengths of the table and of the memory.

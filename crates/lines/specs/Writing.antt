@@ -10,6 +10,7 @@ use lib.ListN.{length, drop}
 use Rattle.controller.specs.declared.decision.Answer.{Answer}
 use Rattle.controller.specs.declared.decision.Answer.the-variants.{Done, BadTransfer, OutputShort}
 use Rattle.controller.specs.Bus.{badTransfer}
+use Rattle.controller.specs.Decision.{numberOf}
 use Rattle.lines.specs.declared.writer.Written.{Written}
 use Rattle.lines.specs.Line.{line}
 
@@ -34,9 +35,10 @@ onto text out = text ++ drop (length text) out
 abbrev pub writtenOf : Writing → Written
 writtenOf w = record { answer = w .answer; length = length (w .text) }
 
--- What a call that writes text promises: what is returned, and every byte of the buffer.
+-- What a call that writes text promises: what is returned, its number in the table, and every byte of the buffer.
 pub record Meets (w : Writing) (before : List ℕ) (returned : Written) (after : List ℕ) : Type 0 where
   pub told : returned ≡ writtenOf w
+  pub number : numberOf (returned .answer) ≡ numberOf (w .answer)
   pub buffer : after ≡ onto (w .text) before
 
 -- Writing a text for which the buffer must have this size.

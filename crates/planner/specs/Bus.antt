@@ -7,6 +7,7 @@ use Prim.Native.Nat.{ℕ}
 use lib.Dec.{ltb}
 use lib.ListN.{length, drop}
 use Rattle.controller.specs.Bus.{whole}
+use Rattle.controller.specs.Decision.{numberOf}
 use Rattle.controller.specs.Runs.{Sent}
 use Rattle.controller.specs.declared.decision.Answer.{Answer}
 use Rattle.controller.specs.declared.decision.Answer.the-variants.{Done, NotWhole, OutputShort, NotWish}
@@ -40,7 +41,8 @@ replyTo wish marks values out =
 unfoldable pub laidOut : List Sent → List ℕ → List ℕ
 laidOut plan out = encoded plan ++ drop (length (encoded plan)) out
 
--- What `plan` promises of a reply: the answer, the count of records, and every byte of the buffer.
+-- What `plan` promises of a reply: the answer, its number in the table, the count of records, and every byte of the buffer.
 pub record Meets (reply : Reply) (before : List ℕ) (returned : Planned) (after : List ℕ) : Type 0 where
   pub told : returned ≡ record { answer = reply .answer; count = length (reply .plan) }
+  pub number : numberOf (returned .answer) ≡ numberOf (reply .answer)
   pub buffer : after ≡ laidOut (reply .plan) before

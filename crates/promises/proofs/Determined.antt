@@ -27,10 +27,10 @@ three Fits promised lent left fits only = (
 pub each-determined : EachDetermined
 each-determined =
     record {
-      transfer = λ rec mem kind byte wait. two _ _ _ (record { told = refl; memory = refl }) (λ a l is. (is .told, is .memory));
+      transfer = λ rec mem kind byte wait. two _ _ _ (record { told = refl; number = refl; memory = refl }) (λ a l is. (is .told, is .memory));
       transfer-in = λ rec mem kind byte wait.
-          three _ _ _ _ (record { told = refl; left = refl; memory = refl }) (λ a b l is. (is .told, is .left, is .memory));
-      reset = λ rec mem. two _ _ _ (record { told = refl; memory = refl }) (λ a l is. (is .told, is .memory));
+          three _ _ _ _ (record { told = refl; number = refl; left = refl; memory = refl }) (λ a b l is. (is .told, is .left, is .memory));
+      reset = λ rec mem. two _ _ _ (record { told = refl; number = refl; memory = refl }) (λ a l is. (is .told, is .memory));
       is-sound = λ rec. one _;
       number = λ answer. one _;
       is-whole = λ mem. one _;
@@ -40,14 +40,14 @@ each-determined =
       line-length = λ n. one _;
       short-time = one _;
       long-time = one _;
-      picture = λ rec mem columns lines lit out. two _ _ _ (record { told = refl; out = refl }) (λ a l is. (is .told, is .out));
+      picture = λ rec mem columns lines lit out. two _ _ _ (record { told = refl; number = refl; out = refl }) (λ a l is. (is .told, is .out));
       rows-of = λ function. one _;
-      plan = λ wish marks values out. two _ _ _ (record { told = refl; buffer = refl }) (λ a l is. (is .told, is .buffer));
+      plan = λ wish marks values out. two _ _ _ (record { told = refl; number = refl; buffer = refl }) (λ a l is. (is .told, is .buffer));
       read-line = λ text. one _;
-      write-line = λ kind byte wait out. two _ _ _ (record { told = refl; buffer = refl }) (λ a l is. (is .told, is .buffer));
-      write-row = λ number answer byte busy out. two _ _ _ (record { told = refl; buffer = refl }) (λ a l is. (is .told, is .buffer));
-      write-header = λ out. two _ _ _ (record { told = refl; buffer = refl }) (λ a l is. (is .told, is .buffer));
-      play = λ text out. two _ _ _ (record { told = refl; buffer = refl }) (λ a l is. (is .told, is .buffer));
+      write-line = λ kind byte wait out. two _ _ _ (record { told = refl; number = refl; buffer = refl }) (λ a l is. (is .told, is .buffer));
+      write-row = λ number answer byte busy out. two _ _ _ (record { told = refl; number = refl; buffer = refl }) (λ a l is. (is .told, is .buffer));
+      write-header = λ out. two _ _ _ (record { told = refl; number = refl; buffer = refl }) (λ a l is. (is .told, is .buffer));
+      play = λ text out. two _ _ _ (record { told = refl; number = refl; buffer = refl }) (λ a l is. (is .told, is .buffer));
       play-through = λ text. one _;
       draw = λ form rec mem columns lines lit out. two _ _ _ (record { told = refl; out = refl }) (λ a l is. (is .told, is .out));
       yaropesk-reset = λ bytes mem.

@@ -83,7 +83,7 @@ plan-kept ReadWish.Broken marks values out = buffer-kept _ out (wishless marks v
 plan-kept (ReadWish.Is wish) marks values out =
     let reply = replyTo wish marks values out in
     buffer-kept _ out (reply .answer) (length (reply .plan)) refl
-    (λ r. plan-refusals wish marks values out _ _ (record { told = refl; buffer = refl }) (not-done (reply .answer) r))
+    (λ r. plan-refusals wish marks values out _ _ (record { told = refl; number = refl; buffer = refl }) (not-done (reply .answer) r))
 
 write-kept : (kind byte wait : ℕ) (out : List ℕ) → KeepsBuffer (writeCall kind byte wait out) out
 unfolding lineWriting wanting isRefusal

@@ -27,6 +27,7 @@ returns c =
     let start = c .before .before .before .before .before .before .before .before in
     record {
       told = simp (c .tell .ensures, c .before .before .before .before .before .decide .ensures);
+      number = simp (c .tell .ensures, c .before .before .before .before .before .decide .ensures);
       memory =
           c .before .before .before .perform .ensures
           ∙ ap (λ (d : Decision). performed (d .effect) (now (start .args .memory))) (c .before .before .before .before .before .decide .ensures);

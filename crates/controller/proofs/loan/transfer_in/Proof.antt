@@ -133,7 +133,7 @@ module _ {M : Type 1} (𝓤 : URA M) (H : Heap 𝓤) (A : Atoms 𝓤) (W : Given
   exits r w zs is e l =
       qed W (‵ (fobs γ (R.the-row .coded .code (r .rec))) ∷ ‵ (fbor κ (Body (mem R.the-row) b o γ)) ∷ ‵ (flft κ q) ∷ (‵ (flft κ′ q′) ⊛ ‵ ftrue) ∷ ‵ (finally u8 γ′ zs) ∷ []) ∵
       suffices ! _ (ends-at 𝓤 H A transfer-in.ended stayed (transfer-in.clauses 𝓤 H A at-mem run) W (((κ, (κ′, tt)), (q, (q′, tt)), tt, a, vals), tt) (mach (told-of r)) (told-of r) (r .rec, (zs, (tt, (tt, (tt, tt))))) (tt, (l, (tt, (tt, (tt, tt)))))) $
-      says ! (record { told = ap told-of (e .told); left = ap (λ (d : Outcome). d .rec) (e .told); memory = e .memory }) $
+      says ! (record { told = ap told-of (e .told); number = e .number; left = ap (λ (d : Outcome). d .rec) (e .told); memory = e .memory }) $
       move ! (2 ∷ 3 ∷ []) $ join ! $ frame ! $ feqI ! (List Val) (vptr b o ∷ []) (vptr b o ∷ []) refl $ fjoin3 ! $
       nothing ! $ owned ! u32 (Is u32) (uint-makes 𝓤 H A W w32) wait _ (refl, wait-fits) $ fjoin ! $ owned ! u8 (Is u8) (uint-makes 𝓤 H A W w8) byte _ (refl, byte-fits) $ fjoin ! $ owned ! u8 (Is u8) (uint-makes 𝓤 H A W w8) kind _ (refl, kind-fits) $ fjoin ! $
       move ! (2 ∷ 0 ∷ []) $ fjoin ! $ move ! (1 ∷ 0 ∷ []) $ fjoin ! $

@@ -68,6 +68,7 @@ returns-2 c =
     simp (le-ltb _ _ (loop .before .before .if1 .left))
     (record {
       told = refl;
+      number = refl;
       buffer = loop .loop .inv .2 ∙ ap (λ (n : ℕ). sets (now (start .args .out)) 0 (take n header)) done ∙ sets-onto header (now (start .args .out)) (omega arith);
     })
 

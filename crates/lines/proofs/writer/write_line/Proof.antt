@@ -6,7 +6,7 @@ use Rattle.lines.specs.Writing.{lineWriting, wanting}
 use Rattle.lines.proofs.Laws.Buffer.{sets-onto}
 use Rattle.lines.proofs.Laws.Lengths.{line-fits}
 use borrow.Author.Tests.{lt-ltb, le-ltb}
-use mathlib.Core.Path.{sym, _∙_}
+use mathlib.Core.Path.{refl, sym, _∙_}
 use borrow.Author.Needs.{needs}
 use Rattle.lines.proofs.writer.write_line.Statement.{statement}
 use Rattle.lines.proofs.writer.write_line.Tie as tie
@@ -38,6 +38,7 @@ returns-3 c =
     simp (le-ltb _ _ (long .if2 .left), sym (long .before .before .is-bad .ensures) ∙ long .before .if1 .left)
     (record {
       told = simp (put .put-line .ensures .0);
+      number = refl;
       buffer = put .put-line .ensures .1 ∙ sets-onto (line (start .args .kind) (start .args .byte) (start .args .wait)) (start .args .out .now) (omega arith);
     })
 

@@ -2,7 +2,7 @@
 -- Assumes nothing.
 use Rattle.lines.specs.Writing.{wanting}
 use Rattle.lines.specs.Rows.{row}
-use mathlib.Core.Path.{_∙_}
+use mathlib.Core.Path.{refl, _∙_}
 use native.Mathlib.Omega.{arith}
 use Rattle.lines.proofs.Laws.Buffer.{sets-onto}
 use Rattle.lines.proofs.Laws.Lengths.{row-fits}
@@ -31,6 +31,7 @@ returns-2 c =
     simp (le-ltb _ _ (long .if1 .left))
     (record {
       told = simp (put .put-row .ensures .0);
+      number = refl;
       buffer =
           put .put-row .ensures .1
           ∙ sets-onto (row (start .args .number) (start .args .answer) (start .args .byte) (start .args .busy)) (start .args .out .now) (omega arith);

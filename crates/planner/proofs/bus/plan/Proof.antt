@@ -5,7 +5,7 @@ use Rattle.controller.proofs.Laws.Record.{whole-length}
 use Rattle.planner.specs.Bus.{replyTo, laidOut, wanted}
 use Rattle.planner.specs.Plan.{encoded}
 use borrow.Author.Tests.{lt-ltb, not-true, not-false}
-use mathlib.Core.Path.{sym, _∙_}
+use mathlib.Core.Path.{refl, sym, _∙_}
 use borrow.Author.Needs.{needs}
 use Rattle.planner.proofs.bus.plan.Statement.{statement}
 use Rattle.planner.proofs.bus.plan.Tie as tie
@@ -66,7 +66,7 @@ returns-5 c =
     (sym (c .before .before .before .before .before .before .before .before .is-whole2 .ensures) ∙ not-false _ (c .before .before .before .before .before .before .before .if2 .left))
     (sym (c .before .before .before .before .before .before .is-wish .ensures) ∙ not-false _ (c .before .before .before .before .before .if3 .left))
     (c .before .before .before .before .if4 .left))
-    (record { told = simp (c .before .before .write-plan .ensures .0); buffer = c .before .before .write-plan .ensures .1 })
+    (record { told = simp (c .before .before .write-plan .ensures .0); number = refl; buffer = c .before .before .write-plan .ensures .1 })
 
 pub plan-spec : {M : Type 1} → statement M
 plan-spec =

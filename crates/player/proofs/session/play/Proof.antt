@@ -2,7 +2,7 @@
 -- Assumes nothing.
 use Rattle.player.specs.Report.{playing}
 use mathlib.Core.Bool.{true, false}
-use mathlib.Core.Path.{_≡_, sym, _∙_, ap}
+use mathlib.Core.Path.{_≡_, refl, sym, _∙_, ap}
 use Prim.Native.Nat.{_+_, _*_, ℕ, _≤_}
 use denote.Ref.{now}
 use lib.Dec.{ltb}
@@ -113,7 +113,7 @@ returns-2 c =
     let starts = reset-starts (set .before .before .any-record .result) (set .reset .ensures) in
     let whole = report-done (omega arith) (head .write-header .ensures) starts (rows .play-rows .ensures) in
     let enough : ltb (length (now (begin .args .out))) (6 * length (now (begin .args .text)) + 62) ≡ false = le-ltb _ _ long in
-    simp enough (record { told = ap (λ (n : ℕ). record { answer = Done; length = n }) (whole .0); buffer = whole .1 })
+    simp enough (record { told = ap (λ (n : ℕ). record { answer = Done; length = n }) (whole .0); number = refl; buffer = whole .1 })
 
 pub play-spec : {M : Type 1} → statement M
 play-spec =
