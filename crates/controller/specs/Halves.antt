@@ -30,6 +30,10 @@ highHalf byte = byte / 16 * 16
 abbrev pub lowHalf : ℕ → ℕ
 lowHalf byte = byte % 16 * 16
 
+-- The byte of two halves: the high four bits that waited, and the upper four bits of the second transfer's byte below them.
+abbrev pub wholeByte : ℕ → ℕ → ℕ
+wholeByte high byte = high * 16 + byte / 16
+
 -- The first half is answered 5 and stored.
 abbrev pub firstTold : ℕ → Half → Record → Decision
 firstTold byte half rec = record { answer = FirstHalf; byte = byte; rec = withHalf half rec; effect = Keep }
@@ -56,8 +60,8 @@ secondHalf mem same transfer rec = ended same (completed mem transfer (withHalf 
 -- Width 4: the second half's upper four bits are the low half of what the first one began.
 unfoldable pub narrow : List ℕ → ℕ → ℕ → Half → Record → Decision
 narrow mem kind byte Empty rec = firstHalf (begun kind byte rec) rec
-narrow mem kind byte (InstructionWrite high) rec = secondHalf mem (eqb kind 0) (Instruct (high * 16 + byte / 16)) rec
-narrow mem kind byte (DataWrite high) rec = secondHalf mem (eqb kind 1) (Write (high * 16 + byte / 16)) rec
+narrow mem kind byte (InstructionWrite high) rec = secondHalf mem (eqb kind 0) (Instruct (wholeByte high byte)) rec
+narrow mem kind byte (DataWrite high) rec = secondHalf mem (eqb kind 1) (Write (wholeByte high byte)) rec
 narrow mem kind byte (StatusRead taken) rec = secondHalf mem (eqb kind 2) (Status taken) rec
 narrow mem kind byte (DataRead taken) rec = secondHalf mem (eqb kind 3) (Read taken) rec
 

@@ -5,7 +5,7 @@ use mathlib.Core.Bool.{Bool, true, false, cond, not, _&&_}
 use mathlib.Core.List.{List, [], _∷_}
 use mathlib.Core.Logic.{_⊎_}
 use mathlib.Core.Path.{_≡_}
-use Prim.Native.Nat.{ℕ, _+_, _-_, _*_, _/_}
+use Prim.Native.Nat.{ℕ, _-_}
 use lib.Dec.{leb, eqb}
 use Rattle.controller.specs.declared.cells.Named.{Named}
 use Rattle.controller.specs.declared.cells.Named.the-variants.{Cell, Outside}
@@ -16,7 +16,7 @@ use Rattle.controller.specs.declared.«record».Half.the-variants.{Empty
 use Rattle.controller.specs.declared.«record».Record.{Record}
 use Rattle.controller.specs.Bus.{whole, badTransfer, noHalf, mustWait}
 use Rattle.controller.specs.Cells.{onCell, cellOfAdd}
-use Rattle.controller.specs.Halves.{begun}
+use Rattle.controller.specs.Halves.{begun, wholeByte}
 use Rattle.controller.specs.Record.{sound, waited}
 
 -- A row of the table: its number, and whether it applies.
@@ -32,8 +32,8 @@ Given n (row ∷ rows) = ((row .applies ≡ true) × (row .number ≡ n)) ⊎ ((
 -- The half that waits, completed by this byte, passes this test; where none waits none passes.
 unfoldable pub secondIs : (Transfer → Bool) → ℕ → Half → Bool
 secondIs test byte Empty = false
-secondIs test byte (InstructionWrite high) = test (Instruct (high * 16 + byte / 16))
-secondIs test byte (DataWrite high) = test (Write (high * 16 + byte / 16))
+secondIs test byte (InstructionWrite high) = test (Instruct (wholeByte high byte))
+secondIs test byte (DataWrite high) = test (Write (wholeByte high byte))
 secondIs test byte (StatusRead taken) = test (Status taken)
 secondIs test byte (DataRead taken) = test (Read taken)
 
