@@ -20,7 +20,7 @@ use Rattle.controller.specs.Cells.{addressOf, placeOf}
 use Rattle.controller.specs.Decision.{numberOf, performed, done}
 use Rattle.controller.specs.Execute.{homed, longTime}
 use Rattle.controller.specs.Record.{sound, waited, withHalf}
-use Rattle.controller.specs.Runs.{State, Sent, Told, decidedOf, after, ran, heard}
+use Rattle.controller.specs.Runs.{State, Sent, decidedOf, after, ran, heard}
 
 -- A sound controller with its memory whole, of this width, with this half waiting, whose busy time this wait covers.
 pub record Waits (rec : Record) (mem : List ℕ) (wide : Bool) (half : Half) (wait : ℕ) : Type 0 where

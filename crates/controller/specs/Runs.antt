@@ -19,7 +19,7 @@ pub record Sent : Type 0 where
   pub wait : ℕ
 
 -- What the sender learns: the answer's number, the byte, and the busy time left.
-pub record Told : Type 0 where
+pub record Heard : Type 0 where
   pub answer : ℕ
   pub byte : ℕ
   pub busy : ℕ
@@ -33,7 +33,7 @@ abbrev pub after : State → Decision → State
 after s d = record { rec = d .rec; mem = performed (d .effect) (s .mem) }
 
 -- What is told of a decision.
-abbrev pub toldOf : Decision → Told
+abbrev pub toldOf : Decision → Heard
 toldOf d = record { answer = numberOf (d .answer); byte = d .byte; busy = d .rec .busy }
 
 -- The controller after all of these transfers.
@@ -42,6 +42,6 @@ ran s [] = s
 ran s (t ∷ ts) = ran (after s (decidedOf s t)) ts
 
 -- What is told of each of these transfers.
-unfoldable pub heard : State → List Sent → List Told
+unfoldable pub heard : State → List Sent → List Heard
 heard s [] = []
 heard s (t ∷ ts) = toldOf (decidedOf s t) ∷ heard (after s (decidedOf s t)) ts

@@ -11,7 +11,7 @@ use Rattle.controller.specs.Cells.{placeOf}
 use Rattle.controller.specs.Execute.{shortTime}
 use Rattle.controller.specs.Halves.{highHalf}
 use Rattle.controller.specs.Record.{sound}
-use Rattle.controller.specs.Runs.{State, Sent, Told, ran, heard}
+use Rattle.controller.specs.Runs.{State, Sent, Heard, ran, heard}
 use Rattle.controller.specs.declared.cells.Counter.the-variants.{Display}
 use Rattle.controller.specs.declared.«record».Half.{Half}
 use Rattle.controller.specs.declared.«record».Half.the-variants.{Empty, InstructionWrite, DataWrite, StatusRead, DataRead}
@@ -84,7 +84,7 @@ pub record Stands (wish : Wish) (marks values : List ℕ) (s : State) : Type 0 w
   pub cells : (place : ℕ) → place < 144 → marked marks place ≡ true → getD (s .mem) place 0 ≡ getD values place 0
 
 -- No transfer was refused as busy.
-unfoldable pub NoneBusy : List Told → Type 0
+unfoldable pub NoneBusy : List Heard → Type 0
 NoneBusy [] = Unit {0}
 NoneBusy (told ∷ more) = (told .answer ≡ 4 → ⊥) × NoneBusy more
 

@@ -10,7 +10,7 @@ use Rattle.controller.specs.declared.decision.Decision.{Decision}
 use Rattle.controller.specs.declared.«record».Half.the-variants.{Empty}
 use Rattle.controller.specs.declared.«record».Record.{Record}
 use Rattle.controller.specs.Decision.{performed}
-use Rattle.controller.specs.Runs.{Told, decidedOf, toldOf}
+use Rattle.controller.specs.Runs.{Heard, decidedOf, toldOf}
 use Rattle.lines.specs.declared.reader.Line.{Line}
 use Rattle.lines.specs.Rows.{row}
 use Rattle.lines.specs.Writing.{onto}
@@ -23,7 +23,7 @@ abbrev pub decidedAt : Line → Record → List ℕ → Decision
 decidedAt line rec mem = decidedOf (record { rec = rec; mem = mem }) (sentOf line)
 
 -- The row of a line: its number, and what its transfer tells.
-abbrev pub rowAt : ℕ → Told → List ℕ
+abbrev pub rowAt : ℕ → Heard → List ℕ
 rowAt number told = row number (told .answer) (told .byte) (told .busy)
 
 -- One line played: the record and the memory after its transfer, and its row at the start of the buffer.

@@ -7,13 +7,13 @@ use lib.ListN.{length, replicate}
 use Rattle.controller.specs.declared.decision.Answer.{Answer}
 use Rattle.controller.specs.Decision.{isDone, numberOf}
 use Rattle.controller.specs.Record.{resetRecord}
-use Rattle.controller.specs.Runs.{State, Told, heard, ran}
+use Rattle.controller.specs.Runs.{State, Heard, heard, ran}
 use Rattle.lines.specs.Rows.{header, row}
 use Rattle.lines.specs.Writing.{Writing, wanting}
 use Rattle.player.specs.Session.{Session, sessionOf}
 
 -- A row for each transfer, numbered from here on.
-unfoldable pub rowsFrom : ℕ → List Told → List ℕ
+unfoldable pub rowsFrom : ℕ → List Heard → List ℕ
 rowsFrom number [] = []
 rowsFrom number (t ∷ ts) = row number (t .answer) (t .byte) (t .busy) ++ rowsFrom (number + 1) ts
 

@@ -33,7 +33,7 @@ use Rattle.controller.specs.Execute.{shortTime, longTime, statusOf, comp
 use Rattle.controller.specs.Halves.{accepted, narrow, begun, firstHalf, firstTold, secondHalf, crossed}
 use Rattle.controller.specs.Instruction.{decoded, bit}
 use Rattle.controller.specs.Record.{resetRecord, resetTime, sound, halfSound, waited, withHalf}
-use Rattle.controller.specs.Runs.{State, Sent, Told, decidedOf, after, toldOf, ran, heard}
+use Rattle.controller.specs.Runs.{State, Sent, Heard, decidedOf, after, toldOf, ran, heard}
 
 -- with its memory whole and its busy time covered, a sound controller takes every transfer that is well formed
 waits-taken : (rec : Record) (mem : List ℕ) (wide : Bool) (half : Half) (kind byte wait : ℕ) → Waits rec mem wide half wait → badTransfer kind byte ≡ false
@@ -170,7 +170,7 @@ unfolding decided openly whole
 opened rec mem kind byte wait long = simp (eq-eqb (length mem) 144 long)
 
 -- what is told of transfers to a memory that is known to be whole
-openHeard : State → List Sent → List Told
+openHeard : State → List Sent → List Heard
 openHeard s [] = []
 openHeard s (t ∷ ts) =
     let d = openly (s .rec) (s .mem) (t .kind) (t .byte) (t .wait) in
@@ -182,7 +182,7 @@ heard-open s [] long = refl
 heard-open s (t ∷ ts) long =
     let d = openly (s .rec) (s .mem) (t .kind) (t .byte) (t .wait) in
     ap (λ (x : Decision). toldOf x ∷ heard (after s x) ts) (opened (s .rec) (s .mem) (t .kind) (t .byte) (t .wait) long)
-    ∙ ap (λ (l : List Told). toldOf d ∷ l) (heard-open (after s d) ts (performed-length (d .effect) (s .mem) long))
+    ∙ ap (λ (l : List Heard). toldOf d ∷ l) (heard-open (after s d) ts (performed-length (d .effect) (s .mem) long))
 
 pub p11 : P11
 unfolding openHeard openly ordered sound halfSound onCell resetRecord resetTime badTransfer mustWait noHalf accepted begun completed statusOf addressOf addOfCell executed decoded bit written carried stepped wrapped placeOf readOut shortTime performed numberOf
