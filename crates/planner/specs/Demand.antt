@@ -2,14 +2,12 @@
 -- Assumes nothing.
 use mathlib.Core.Bool.{Bool, true, false, _&&_}
 use mathlib.Core.List.{List, [], _∷_, _++_}
-use mathlib.Core.Logic.{_⊎_}
 use mathlib.Core.Path.{_≡_}
-use Prim.Native.Nat.{ℕ, _+_, _≤_, _<_}
+use Prim.Native.Nat.{ℕ, _≤_, _<_}
 use lib.Dec.{eqb}
 use lib.ListN.{length, getD}
 use Rattle.controller.specs.Cells.{placeOf}
 use Rattle.controller.specs.Execute.{shortTime}
-use Rattle.controller.specs.Halves.{highHalf}
 use Rattle.controller.specs.Record.{sound}
 use Rattle.controller.specs.Runs.{State, Sent, Heard, ran, heard}
 use Rattle.controller.specs.declared.cells.Counter.the-variants.{Display}
@@ -107,9 +105,3 @@ Demand3 =
     → Stands wish marks values (ran start (joined cut last))
     × NoneBusy (heard start (joined cut last))
     × Spared marks start (ran start (joined cut last) .mem)
-
--- On the way a cell may hold its first byte, and if named its wished byte or the wished high half with 3h.
-abbrev pub MayHold : List ℕ → List ℕ → State → ℕ → ℕ → Type 0
-MayHold marks values start place byte =
-    (byte ≡ getD (start .mem) place 0)
-    ⊎ ((marked marks place ≡ true) × ((byte ≡ getD values place 0) ⊎ (byte ≡ highHalf (getD values place 0) + 3)))

@@ -3,14 +3,17 @@
 -- Assumes nothing.
 use mathlib.Core.Bool.{Bool, true, false, _&&_}
 use mathlib.Core.List.{List, [], _∷_, _++_}
+use mathlib.Core.Logic.{_⊎_}
 use mathlib.Core.Path.{_≡_, refl, sym, ap, _∙_}
 use Prim.Native.Nat.{ℕ, _+_, _*_, _≤_, _<_}
 use lib.ListN.{length, getD}
 use Rattle.controller.specs.Cells.{placeOf}
+use Rattle.controller.specs.Halves.{highHalf}
 use Rattle.controller.specs.Record.{sound}
-use Rattle.controller.specs.Runs.{State, Sent, Told, decidedOf, after, toldOf, ran, heard}
+use Rattle.controller.specs.Runs.{State, Sent, decidedOf, after, toldOf, ran, heard}
 use Rattle.controller.specs.declared.«record».Half.the-variants.{DataWrite}
-use Rattle.planner.specs.Demand.{AsAsked, Whole, Begun, EachBegun, joined, excepted, NoneBusy, Bytes, MayHold}
+use Rattle.planner.specs.Demand.{AsAsked, Whole, Begun, EachBegun, joined, excepted, NoneBusy, Bytes}
+use Rattle.planner.specs.Wish.{marked}
 
 -- what is fixed before the first run: the controller as found, the marks, and the values, which are bytes
 pub record Scene : Type 0 where
@@ -19,8 +22,11 @@ pub record Scene : Type 0 where
   pub values : List ℕ
   pub bytes : Bytes values
 
+-- on the way a cell may hold its first byte, and if marked its wished byte or the wished high half with 3h
 abbrev pub Holds : Scene → ℕ → ℕ → Type 0
-Holds k place byte = MayHold (k .marks) (k .values) (k .start) place byte
+Holds k place byte =
+    (byte ≡ getD (k .start .mem) place 0)
+    ⊎ ((marked (k .marks) place ≡ true) × ((byte ≡ getD (k .values) place 0) ⊎ (byte ≡ highHalf (getD (k .values) place 0) + 3)))
 
 -- between any two transfers: a sound record, a whole memory, each cell that is not excepted with a byte that it may hold,
 -- and a waiting data write that 3h would complete to such a byte
