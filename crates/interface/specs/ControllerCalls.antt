@@ -1,11 +1,9 @@
 -- Reset and transfer over a record of 24 bytes and a memory of 144: what is returned, and every byte that is lent.
 -- Assumes nothing.
-use mathlib.Core.Bool.{Bool, cond, not}
+use mathlib.Core.Bool.{cond, not}
 use mathlib.Core.List.{List}
 use mathlib.Core.Path.{_≡_}
 use Prim.Native.Nat.{ℕ, _+_, _*_}
-use lib.Dec.{eqb}
-use lib.ListN.{length}
 use Rattle.controller.specs.declared.decision.Answer.{Answer}
 use Rattle.controller.specs.declared.decision.Answer.the-variants.{Unsound, NotWhole}
 use Rattle.controller.specs.declared.decision.Decision.{Decision}
@@ -14,7 +12,7 @@ use Rattle.controller.specs.Bus.{decided, resetDecided, whole}
 use Rattle.controller.specs.Decision.{numberOf, performed}
 use Rattle.interface.specs.declared.record_bytes.ReadRecord.{ReadRecord}
 use Rattle.interface.specs.declared.record_bytes.ReadRecord.the-variants.{Is, Broken}
-use Rattle.interface.specs.RecordBytes.{recordBytes, recordFrom, recordIn}
+use Rattle.interface.specs.RecordBytes.{recordBytes, recordFrom, isRecordLong, recordIn}
 
 -- What a call over a record and a memory comes to: the number returned, the record's bytes and the memory as they are left.
 pub record Call : Type 0 where
@@ -38,10 +36,6 @@ transferFrom (Is rec) bytes mem kind byte wait = callOf (decided rec mem kind by
 -- What `yaropesk_transfer` comes to.
 abbrev pub transferCall : List ℕ → List ℕ → ℕ → ℕ → ℕ → Call
 transferCall bytes mem kind byte wait = transferFrom (recordIn bytes) bytes mem kind byte wait
-
--- The bytes are as many as a record has.
-unfoldable pub isRecordLong : List ℕ → Bool
-isRecordLong bytes = eqb (length bytes) 24
 
 -- What `yaropesk_reset` comes to: 1 where there is no place for a record, then 2. What the record's bytes say does not matter.
 unfoldable pub resetCall : List ℕ → List ℕ → Call

@@ -28,7 +28,7 @@ sixOf line = sixBytes (record { kind = line .kind; byte = line .byte; wait = lin
 
 -- A refusal writes nothing.
 abbrev pub declined : Answer → List ℕ → Filling
-declined answer out = record { returned = numberOf answer + 256 * 0; buffer = out }
+declined answer out = record { returned = numberOf answer; buffer = out }
 
 -- A line that was read, the refusals in their order: 12, then 11. Six bytes are wanted.
 unfoldable pub stored : Line → List ℕ → Filling

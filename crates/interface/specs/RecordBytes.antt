@@ -1,8 +1,8 @@
 -- A controller's record as 24 bytes, and the record that bytes say.
 -- Assumes nothing.
 use mathlib.Core.Bool.{Bool, true, false, cond, _&&_}
-use mathlib.Core.List.{List, [], _∷_}
-use Prim.Native.Nat.{ℕ, _+_, _*_, _/_, _%_}
+use mathlib.Core.List.{List, [], _∷_, _++_}
+use Prim.Native.Nat.{ℕ}
 use lib.Dec.{eqb}
 use lib.ListN.{length, getD}
 use Rattle.controller.specs.declared.cells.Counter.{Counter}
@@ -10,6 +10,7 @@ use Rattle.controller.specs.declared.cells.Counter.the-variants.{Display, Patte
 use Rattle.controller.specs.declared.«record».Half.{Half}
 use Rattle.controller.specs.declared.«record».Half.the-variants.{Empty, InstructionWrite, DataWrite, StatusRead, DataRead}
 use Rattle.controller.specs.declared.«record».Record.{Record}
+use Rattle.planner.specs.Plan.{littleEndian, numberFrom}
 use Rattle.interface.specs.declared.record_bytes.ReadRecord.{ReadRecord}
 use Rattle.interface.specs.declared.record_bytes.ReadRecord.the-variants.{Is, Broken}
 
@@ -60,8 +61,7 @@ recordBytes rec =
     ∷ rec .reg ∷ bitByte (rec .fresh)
     ∷ halfByte (rec .half) ∷ valueByte (rec .half)
     ∷ 0
-    ∷ rec .busy % 256 ∷ rec .busy / 256 % 256 ∷ rec .busy / 65536 % 256 ∷ rec .busy / 16777216 % 256
-    ∷ 0 ∷ 0 ∷ 0 ∷ 0 ∷ []
+    ∷ (littleEndian (rec .busy) ++ (0 ∷ 0 ∷ 0 ∷ 0 ∷ []))
 
 -- The counter of these two bytes.
 unfoldable pub counterFrom : ℕ → ℕ → Counter
@@ -75,10 +75,6 @@ halfFrom half value =
     (cond (eqb half 3) (StatusRead value)
     (cond (eqb half 4) (DataRead value)
     Empty)))
-
--- The number of four bytes, little-endian.
-abbrev pub numberFrom : ℕ → ℕ → ℕ → ℕ → ℕ
-numberFrom first second third fourth = first + second * 256 + third * 65536 + fourth * 16777216
 
 -- The record that 24 bytes say if they say one: a byte that a record cannot have is read as one that it can.
 unfoldable pub recordFrom : List ℕ → Record
@@ -107,6 +103,10 @@ sameBytes (x ∷ xs) (y ∷ ys) = eqb x y && sameBytes xs ys
 unfoldable pub readAs : Record → List ℕ → ReadRecord
 readAs rec bytes = cond (sameBytes bytes (recordBytes rec)) (Is rec) Broken
 
+-- The bytes are as many as a record has.
+unfoldable pub isRecordLong : List ℕ → Bool
+isRecordLong bytes = eqb (length bytes) 24
+
 -- What bytes say: the one record whose 24 bytes they are. Any other length or value is none.
 unfoldable pub recordIn : List ℕ → ReadRecord
-recordIn bytes = cond (eqb (length bytes) 24) (readAs (recordFrom bytes) bytes) Broken
+recordIn bytes = cond (isRecordLong bytes) (readAs (recordFrom bytes) bytes) Broken

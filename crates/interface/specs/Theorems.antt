@@ -24,12 +24,12 @@ use Rattle.interface.specs.declared.record_bytes.ReadRecord.{ReadRecord}
 use Rattle.interface.specs.declared.record_bytes.ReadRecord.the-variants.{Is, Broken}
 use Rattle.interface.specs.declared.wish_bytes.ReadWish.{ReadWish}
 use Rattle.interface.specs.declared.wish_bytes.ReadWish.the-variants as ReadWish
-use Rattle.interface.specs.ControllerCalls.{Call, isRecordLong, refusal, resetCall, transferCall}
+use Rattle.interface.specs.ControllerCalls.{Call, refusal, resetCall, transferCall}
 use Rattle.interface.specs.Filling.{Filling}
 use Rattle.interface.specs.LineCalls.{readCall, writeCall}
 use Rattle.interface.specs.PictureCalls.{pictureCall}
 use Rattle.interface.specs.PlanCalls.{planCall}
-use Rattle.interface.specs.RecordBytes.{recordBytes, recordIn}
+use Rattle.interface.specs.RecordBytes.{recordBytes, isRecordLong, recordIn}
 use Rattle.interface.specs.WishBytes.{wishBytes, wishIn}
 
 -- The bytes of a sound record say that record.

@@ -2,9 +2,10 @@
 ghost use mathlib.Core.Path.{_≡_};
 ghost use lib.ListN.{length};
 ghost use Rattle.controller.specs.Bus.{decided, resetDecided};
-ghost use Rattle.interface.specs.ControllerCalls.{Left, Meets, callOf, isRecordLong, resetCall, transferCall};
+ghost use Rattle.interface.specs.ControllerCalls.{Left, Meets, callOf, resetCall, transferCall};
 ghost use Rattle.interface.specs.RecordBytes.{recordFrom};
 use crate::record_bytes::ReadRecord;
+use crate::record_bytes::is_record_long;
 use crate::record_bytes::read_record;
 use crate::record_bytes::record_from;
 use crate::record_bytes::write_record;
@@ -58,12 +59,6 @@ pub extern "C" fn yaropesk_transfer(
         ReadRecord::Broken => 1,
         ReadRecord::Is(rec) => transfer_from(rec, bytes, memory, kind, byte, wait),
     }
-}
-
-fn is_record_long(bytes: &[u8]) -> bool
-    ensures { λ r. ⌜ r ≡ isRecordLong (now (bytes .entry)) ⌝ }
-{
-    bytes.len() == 24
 }
 
 // A reset over 24 bytes, whatever they say.

@@ -2,7 +2,8 @@
 ghost use mathlib.Core.Path.{_≡_};
 ghost use Prim.Native.Nat.{_+_, _*_};
 ghost use lib.ListN.{length};
-ghost use Rattle.interface.specs.RecordBytes.{bitByte, cellByte, counterFrom, halfByte, halfFrom, memoryByte, numberFrom, recordBytes, recordFrom, readAs, recordIn, valueByte, widthByte};
+ghost use Rattle.planner.specs.Plan.{numberFrom};
+ghost use Rattle.interface.specs.RecordBytes.{bitByte, cellByte, counterFrom, halfByte, halfFrom, isRecordLong, memoryByte, recordBytes, recordFrom, readAs, recordIn, valueByte, widthByte};
 use controller::Control;
 use controller::Counter;
 use controller::Entry;
@@ -185,11 +186,18 @@ fn read_as(rec: Record, bytes: &[u8]) -> ReadRecord
     ReadRecord::Broken
 }
 
+// Whether bytes are as many as a record has.
+pub fn is_record_long(bytes: &[u8]) -> bool
+    ensures { λ r. ⌜ r ≡ isRecordLong (now (bytes .entry)) ⌝ }
+{
+    bytes.len() == 24
+}
+
 // Reads a record out of bytes.
 pub fn read_record(bytes: &[u8]) -> ReadRecord
     ensures { λ r. ⌜ r ≡ recordIn (now (bytes .entry)) ⌝ }
 {
-    if bytes.len() != 24 {
+    if !is_record_long(bytes) {
         return ReadRecord::Broken;
     }
     read_as(record_from(bytes), bytes)

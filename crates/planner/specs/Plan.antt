@@ -100,10 +100,17 @@ inHalves before (command ∷ rest) = firstSent before command ∷ secondSent com
 unfoldable pub planOf : Wish → List ℕ → List ℕ → List Sent
 planOf wish marks values = opening ++ inHalves 100 (commands wish marks values)
 
+-- A number as four bytes, little-endian.
+abbrev pub littleEndian : ℕ → List ℕ
+littleEndian number = number % 256 ∷ number / 256 % 256 ∷ number / 65536 % 256 ∷ number / 16777216 % 256 ∷ []
+
+-- The number of four bytes, little-endian.
+abbrev pub numberFrom : ℕ → ℕ → ℕ → ℕ → ℕ
+numberFrom first second third fourth = first + second * 256 + third * 65536 + fourth * 16777216
+
 -- Records are six bytes: kind, byte, wait little-endian.
 abbrev pub sixBytes : Sent → List ℕ
-sixBytes t =
-    t .kind ∷ t .byte ∷ t .wait % 256 ∷ t .wait / 256 % 256 ∷ t .wait / 65536 % 256 ∷ t .wait / 16777216 % 256 ∷ []
+sixBytes t = t .kind ∷ t .byte ∷ littleEndian (t .wait)
 
 unfoldable pub encoded : List Sent → List ℕ
 encoded [] = []

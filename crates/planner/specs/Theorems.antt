@@ -4,7 +4,7 @@ use mathlib.Core.Bool.{Bool, true, false, not, _&&_}
 use mathlib.Core.List.{List, [], _∷_}
 use mathlib.Core.Logic.{_⊎_, _↔_}
 use mathlib.Core.Path.{_≡_}
-use Prim.Native.Nat.{ℕ, zero, suc, _+_, _*_, _≤_, _<_}
+use Prim.Native.Nat.{ℕ, zero, suc, _≤_, _<_}
 use lib.Dec.{ltb}
 use lib.ListN.{length, getD, drop, replicate}
 use Rattle.controller.specs.Bus.{whole}
@@ -18,8 +18,8 @@ use Rattle.planner.specs.declared.bus.Planned.{Planned}
 use Rattle.planner.specs.declared.wish.Wish.{Wish}
 use Rattle.planner.specs.Bus.{replyTo, wanted, turnedDown, Meets}
 use Rattle.planner.specs.Demand.{Bytes, excepted}
-use Rattle.planner.specs.Plan.{single, planOf}
-use Rattle.planner.specs.Wish.{isWish, marked}
+use Rattle.planner.specs.Plan.{single, planOf, numberFrom}
+use Rattle.planner.specs.Wish.{isWish}
 
 -- The rows of plan in their order.
 unfoldable pub planRows : Wish → List ℕ → List ℕ → List ℕ → List Row
@@ -113,7 +113,7 @@ sentAt bytes =
     record {
       kind = getD bytes 0 0;
       byte = getD bytes 1 0;
-      wait = getD bytes 2 0 + 256 * getD bytes 3 0 + 65536 * getD bytes 4 0 + 16777216 * getD bytes 5 0;
+      wait = numberFrom (getD bytes 2 0) (getD bytes 3 0) (getD bytes 4 0) (getD bytes 5 0);
     }
 
 -- The first records of a buffer, read as transfers.

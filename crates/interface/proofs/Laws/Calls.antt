@@ -14,8 +14,8 @@ use Rattle.controller.specs.Bus.{decided, resetDecided, whole}
 use Rattle.controller.specs.Bus as Bus
 use Rattle.controller.specs.Decision.{numberOf, performed, outcomeOf}
 use Rattle.interface.specs.declared.record_bytes.ReadRecord.the-variants.{Is, Broken}
-use Rattle.interface.specs.ControllerCalls.{Left, Meets, callOf, transferFrom, transferCall, isRecordLong}
-use Rattle.interface.specs.RecordBytes.{recordBytes, recordFrom, recordIn}
+use Rattle.interface.specs.ControllerCalls.{Left, Meets, callOf, transferFrom, transferCall}
+use Rattle.interface.specs.RecordBytes.{recordBytes, recordFrom, isRecordLong, recordIn}
 
 -- an outcome that tells a decision, left in its bytes, and the effect performed
 pub left-meets : (d : Decision) (mem : List ℕ) (outcome : Outcome) {returned : ℕ} {bytes after : List ℕ}

@@ -35,12 +35,12 @@ use Rattle.interface.specs.declared.record_bytes.ReadRecord.{ReadRecord}
 use Rattle.interface.specs.declared.record_bytes.ReadRecord.the-variants.{Is, Broken}
 use Rattle.interface.specs.declared.wish_bytes.ReadWish.{ReadWish}
 use Rattle.interface.specs.declared.wish_bytes.ReadWish.the-variants as ReadWish
-use Rattle.interface.specs.ControllerCalls.{Call, isRecordLong, resetCall, transferFrom}
+use Rattle.interface.specs.ControllerCalls.{Call, resetCall, transferFrom}
 use Rattle.interface.specs.Filling.{Filling}
 use Rattle.interface.specs.LineCalls.{stored, writeCall}
 use Rattle.interface.specs.PictureCalls.{pictureFrom}
 use Rattle.interface.specs.PlanCalls.{planFrom, wishless}
-use Rattle.interface.specs.RecordBytes.{recordFrom, recordIn}
+use Rattle.interface.specs.RecordBytes.{recordFrom, isRecordLong, recordIn}
 use Rattle.interface.specs.Theorems.{CallAnswers, ReadTells, Tells, answerIn, notWish, planCallRows, resetCallRows, rowsFrom}
 use Rattle.interface.specs.WishBytes.{wishIn}
 use Rattle.interface.proofs.Laws.Calls.{reset-done}

@@ -14,7 +14,7 @@ use Rattle.controller.specs.declared.decision.Answer.the-variants.{Done, Unsoun
 use Rattle.controller.specs.declared.decision.Decision.{Decision}
 use Rattle.controller.specs.declared.«record».Record.{Record}
 use Rattle.controller.specs.Bus.{badTransfer, decided, resetDecided, whole}
-use Rattle.controller.specs.Decision.{isRefusal, numberOf, performed}
+use Rattle.controller.specs.Decision.{isDone, isRefusal, numberOf, performed}
 use Rattle.controller.specs.Theorems.{left}
 use Rattle.controller.proofs.Laws.Choice.{cond-elim}
 use Rattle.controller.proofs.Theorems.Refusals.{transfer-refusals}
@@ -29,12 +29,12 @@ use Rattle.interface.specs.declared.record_bytes.ReadRecord.{ReadRecord}
 use Rattle.interface.specs.declared.record_bytes.ReadRecord.the-variants.{Is, Broken}
 use Rattle.interface.specs.declared.wish_bytes.ReadWish.{ReadWish}
 use Rattle.interface.specs.declared.wish_bytes.ReadWish.the-variants as ReadWish
-use Rattle.interface.specs.ControllerCalls.{Call, isRecordLong, resetCall, transferFrom}
+use Rattle.interface.specs.ControllerCalls.{Call, resetCall, transferFrom}
 use Rattle.interface.specs.Filling.{Filling}
 use Rattle.interface.specs.LineCalls.{stored, writeCall}
 use Rattle.interface.specs.PictureCalls.{pictureFrom}
 use Rattle.interface.specs.PlanCalls.{planFrom, wishless}
-use Rattle.interface.specs.RecordBytes.{recordBytes, recordFrom, recordIn}
+use Rattle.interface.specs.RecordBytes.{recordBytes, recordFrom, isRecordLong, recordIn}
 use Rattle.interface.specs.Theorems.{CallRefusals, KeepsBuffer, KeepsMemory, Refuses, answerIn, bytesLeft}
 use Rattle.interface.specs.WishBytes.{wishIn}
 use Rattle.interface.proofs.Laws.Calls.{reset-done}
@@ -97,8 +97,8 @@ read-kept : (line : Line) (out : List ℕ) → KeepsBuffer (stored line out) out
 unfolding stored
 read-kept line out =
     let P : Filling → Type 0 = λ call. KeepsBuffer call out in
-    cond-elim P (not (eqb (numberOf (line .answer)) 0)) _ _ (λ _. buffer-kept _ out (line .answer) 0 refl (λ _. (refl, refl)))
-    (λ good. cond-elim P (ltb (length out) 6) _ _ (λ _. buffer-kept _ out OutputShort 0 refl (λ _. (refl, refl)))
+    cond-elim P (not (isDone (line .answer))) _ _ (λ _. buffer-kept _ out (line .answer) 0 (omega arith) (λ _. (refl, refl)))
+    (λ good. cond-elim P (ltb (length out) 6) _ _ (λ _. buffer-kept _ out OutputShort 0 (omega arith) (λ _. (refl, refl)))
     (λ _. buffer-kept _ out (line .answer) (line .length) refl
     (λ r. absurd (not-done (line .answer) r (eqb-true (numberOf (line .answer)) 0 (not-false _ good))))))
 

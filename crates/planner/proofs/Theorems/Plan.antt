@@ -26,7 +26,7 @@ use Rattle.planner.specs.declared.bus.Planned.{Planned}
 use Rattle.planner.specs.declared.wish.Wish.{Wish}
 use Rattle.planner.specs.Bus.{Reply, wanted, replyTo, laidOut}
 use Rattle.planner.specs.Demand.{halfWrite, excepted}
-use Rattle.planner.specs.Plan.{Command, worth, counterAt, addressByte, cell, cellsBelow, commands, timeOf, inHalves, planOf, encoded}
+use Rattle.planner.specs.Plan.{Command, worth, counterAt, addressByte, cell, cellsBelow, commands, timeOf, inHalves, planOf, encoded, numberFrom}
 use Rattle.planner.specs.Theorems.{AtMost468, Reaches468, P12, ExceptionNeeded, BoardSendsPlan, all, readBack}
 use Rattle.planner.specs.Wish.{marksFit, isWish, marked, follows}
 
@@ -68,21 +68,21 @@ unfolding planOf SmallWaits
 plan-small wish marks values = (omega arith, (omega arith, (omega arith, (omega arith, halves-small 100 (commands wish marks values) (omega arith)))))
 
 -- a number by its bytes, one after the other
-bytes-of : (w a b c d q r : ℕ) → a + 256 * q ≡ w → b + 256 * r ≡ q → c + 256 * d ≡ r → a + 256 * b + 65536 * c + 16777216 * d ≡ w
+bytes-of : (w a b c d q r : ℕ) → a + 256 * q ≡ w → b + 256 * r ≡ q → c + 256 * d ≡ r → numberFrom a b c d ≡ w
 bytes-of w a b c d q r first second third = omega arith
 
 -- four bytes read back
-four-bytes : (wait : ℕ) → wait < 4294967296
-    → wait % 256 + 256 * (wait / 256 % 256) + 65536 * (wait / 65536 % 256) + 16777216 * (wait / 16777216 % 256) ≡ wait
+pub four-bytes : (wait : ℕ) → wait < 4294967296
+    → numberFrom (wait % 256) (wait / 256 % 256) (wait / 65536 % 256) (wait / 16777216 % 256) ≡ wait
 four-bytes wait small =
     let second : wait / 65536 ≡ wait / 256 / 256 = sym (div-div-eq-div-mul wait 256 256) in
     let third : wait / 16777216 ≡ wait / 65536 / 256 = sym (div-div-eq-div-mul wait 65536 256) in
-    let sum : wait % 256 + 256 * (wait / 256 % 256) + 65536 * (wait / 256 / 256 % 256) + 16777216 * (wait / 256 / 256 / 256) ≡ wait =
+    let sum : numberFrom (wait % 256) (wait / 256 % 256) (wait / 256 / 256 % 256) (wait / 256 / 256 / 256) ≡ wait =
     bytes-of wait _ _ _ _ (wait / 256) (wait / 256 / 256) (mod-add-div wait 256) (mod-add-div (wait / 256) 256) (mod-add-div (wait / 256 / 256) 256) in
     let top : wait / 256 / 256 / 256 % 256 ≡ wait / 256 / 256 / 256 = mod-eq-of-lt (top-small _ _ wait sum small) in
     rw (third, second, top) sum
   where
-    top-small : (rest d w : ℕ) → rest + 16777216 * d ≡ w → w < 4294967296 → d < 256
+    top-small : (rest d w : ℕ) → rest + d * 16777216 ≡ w → w < 4294967296 → d < 256
     top-small rest d w sum below = omega arith
 
 -- records read back
