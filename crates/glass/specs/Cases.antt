@@ -1,6 +1,6 @@
 -- The bench cases of document 01 that are about the picture: P5 and P7. What a case leaves open is any.
 -- Assumes nothing.
-use mathlib.Core.Bool.{Bool, true, false}
+use mathlib.Core.Bool.{Bool, true}
 use mathlib.Core.List.{List}
 use mathlib.Core.Path.{_≡_}
 use Prim.Native.Nat.{ℕ, _<_}

@@ -1,10 +1,10 @@
 -- The plan: the transfers that bring a panel into a wished state (document 01, "The plan").
 -- Assumes nothing.
-use mathlib.Core.Bool.{Bool, true, false, cond, not, _&&_}
+use mathlib.Core.Bool.{Bool, true, false, cond, _&&_}
 use mathlib.Core.List.{List, [], _∷_, _++_}
 use Prim.Native.Nat.{ℕ, zero, suc, _+_, _-_, _*_, _/_, _%_}
-use lib.Dec.{ltb, leb, eqb}
-use lib.ListN.{length, getD, drop, replicate}
+use lib.Dec.{ltb, eqb}
+use lib.ListN.{getD, replicate}
 use Rattle.controller.specs.Cells.{addressSet}
 use Rattle.controller.specs.Execute.{shortTime, longTime}
 use Rattle.controller.specs.Halves.{highHalf, lowHalf}

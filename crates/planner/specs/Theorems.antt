@@ -1,6 +1,6 @@
 -- What is proved of the definitions beside demand 3: each theorem is a type here, and its proof stands in proofs/Theorems.
 -- Assumes nothing.
-use mathlib.Core.Bool.{Bool, true, false, not, _&&_}
+use mathlib.Core.Bool.{true, false, not, _&&_}
 use mathlib.Core.List.{List, [], _∷_}
 use mathlib.Core.Logic.{_⊎_, _↔_}
 use mathlib.Core.Path.{_≡_}
@@ -16,7 +16,7 @@ use Rattle.controller.specs.Runs.{State, Sent, ran}
 use Rattle.controller.specs.declared.decision.Answer.the-variants.{Done}
 use Rattle.planner.specs.declared.bus.Planned.{Planned}
 use Rattle.planner.specs.declared.wish.Wish.{Wish}
-use Rattle.planner.specs.Bus.{replyTo, wanted, turnedDown, Meets}
+use Rattle.planner.specs.Bus.{replyTo, wanted, Meets}
 use Rattle.planner.specs.Demand.{Bytes, excepted}
 use Rattle.planner.specs.Plan.{single, planOf, numberFrom}
 use Rattle.planner.specs.Wish.{isWish}
