@@ -21,10 +21,11 @@ use Rattle.controller.specs.Decision.{done, refused}
 use Rattle.controller.specs.Instruction.{decoded}
 use Rattle.controller.specs.Record.{withFunction, withControl, withEntry, withShift, withCounter, withRegister, withBusy}
 
--- Clear and Home take 1,640, all other instructions, data writes and data reads 40 (document 002, 250 kHz).
+-- The time of all instructions but Clear and Home, of data writes and of data reads (document 002, 250 kHz).
 unfoldable pub shortTime : ℕ
 shortTime = 40
 
+-- The time of Clear and Home.
 unfoldable pub longTime : ℕ
 longTime = 1640
 

@@ -45,6 +45,7 @@ completeIs test kind byte rec = cond (rec .wide) (test rec (begun kind byte rec)
 unfoldable pub isFirst : Record → Bool
 isFirst rec = not (rec .wide) && noHalf (rec .half)
 
+-- The address names no cell.
 unfoldable pub isOutside : Named → Bool
 isOutside (Cell cell) = false
 isOutside Outside = true
@@ -63,7 +64,7 @@ readsStale rec (Write byte) = false
 readsStale rec (Status byte) = false
 readsStale rec (Read byte) = not (rec .fresh)
 
--- Row 8: a second half of another kind than the first.
+-- The half that waits is of another kind than this transfer.
 unfoldable pub otherKind : ℕ → Half → Bool
 otherKind kind Empty = false
 otherKind kind (InstructionWrite high) = not (eqb kind 0)
@@ -71,6 +72,7 @@ otherKind kind (DataWrite high) = not (eqb kind 1)
 otherKind kind (StatusRead taken) = not (eqb kind 2)
 otherKind kind (DataRead taken) = not (eqb kind 3)
 
+-- Row 8: at width 4, a second half of another kind than the first.
 unfoldable pub isCrossed : ℕ → Record → Bool
 isCrossed kind rec = not (rec .wide) && otherKind kind (rec .half)
 

@@ -60,6 +60,7 @@ left answer wait rec =
 abbrev pub LeavesAsSaid : ℕ → Record → Decision → Type 0
 LeavesAsSaid wait rec d = isRefusal (d .answer) ≡ true → d ≡ refused (d .answer) (left (d .answer) wait rec)
 
+-- Every transfer that is refused leaves the controller so.
 abbrev pub TransferRefusals : Type 0
 TransferRefusals = (rec : Record) (mem : List ℕ) (kind byte wait : ℕ) → LeavesAsSaid wait rec (decided rec mem kind byte wait)
 
@@ -67,21 +68,23 @@ TransferRefusals = (rec : Record) (mem : List ℕ) (kind byte wait : ℕ) → Le
 abbrev pub ResetRefusals : Type 0
 ResetRefusals = (rec : Record) (mem : List ℕ) → isRefusal (resetDecided rec mem .answer) ≡ true → resetDecided rec mem ≡ refused NotWhole rec
 
--- Each number is given exactly where its row applies and none before it in the order.
+-- Transfer gives each number exactly where its row applies and none before it in the order.
 abbrev pub TransferAnswers : Type 0
 TransferAnswers =
     (rec : Record) (mem : List ℕ) (kind byte wait n : ℕ)
     → (numberOf (decided rec mem kind byte wait .answer) ≡ n) ↔ Given n (transferRows rec mem kind byte wait)
 
+-- Reset gives each number exactly where its row applies.
 abbrev pub ResetAnswers : Type 0
 ResetAnswers = (rec : Record) (mem : List ℕ) (n : ℕ) → (numberOf (resetDecided rec mem .answer) ≡ n) ↔ Given n (resetRows mem)
 
--- No second answer fits: two outcomes that both meet the promise are one, and so are the memories.
+-- No second answer fits a transfer: two outcomes that both meet the promise are one, and so are the memories.
 abbrev pub OneTransfer : Type 0
 OneTransfer =
     (rec : Record) (mem : List ℕ) (kind byte wait : ℕ) (a b : Outcome) (x y : List ℕ)
     → Meets (decided rec mem kind byte wait) mem a x → Meets (decided rec mem kind byte wait) mem b y → (a ≡ b) × (x ≡ y)
 
+-- No second answer fits a reset.
 abbrev pub OneReset : Type 0
 OneReset =
     (rec : Record) (mem : List ℕ) (a b : Outcome) (x y : List ℕ)
@@ -93,18 +96,22 @@ OneTransferIn =
     (rec : Record) (mem : List ℕ) (kind byte wait : ℕ) (a b : Told) (u v : Record) (x y : List ℕ)
     → MeetsIn (decided rec mem kind byte wait) mem a u x → MeetsIn (decided rec mem kind byte wait) mem b v y → (a ≡ b) × (u ≡ v) × (x ≡ y)
 
--- Of the functions that return one value: two values that are both what was promised are one.
+-- No second answer of `is_sound` fits: two values that are both what was promised are one.
 abbrev pub OneSoundness : Type 0
 OneSoundness = (rec : Record) (a b : Bool) → a ≡ sound rec → b ≡ sound rec → a ≡ b
 
+-- An answer has one number.
 abbrev pub OneNumber : Type 0
 OneNumber = (answer : Answer) (a b : ℕ) → a ≡ numberOf answer → b ≡ numberOf answer → a ≡ b
 
+-- A line has one length.
 abbrev pub OneLineLength : Type 0
 OneLineLength = (n : Bool) (a b : ℕ) → a ≡ lineLength n → b ≡ lineLength n → a ≡ b
 
+-- There is one short time.
 abbrev pub OneShortTime : Type 0
 OneShortTime = (a b : ℕ) → a ≡ shortTime → b ≡ shortTime → a ≡ b
 
+-- There is one long time.
 abbrev pub OneLongTime : Type 0
 OneLongTime = (a b : ℕ) → a ≡ longTime → b ≡ longTime → a ≡ b

@@ -61,10 +61,11 @@ SecondLineDark =
     (shapes : List ℕ) (rec : Record) (mem : List ℕ) (lit : Bool) (row column : ℕ)
     → rec .function .n ≡ false → dotsAt shapes rec mem lit 1 row column ≡ 0
 
--- All rows of a code are zero in the table; all rows of two codes are the same.
+-- All rows of a code are zero in the table.
 abbrev pub Blank : ℕ → Type 0
 Blank code = (row : ℕ) → row < 8 → tableRow font code row ≡ 0
 
+-- All rows of two codes are the same in the table.
 abbrev pub Alike : ℕ → ℕ → Type 0
 Alike a b = (row : ℕ) → row < 8 → tableRow font a row ≡ tableRow font b row
 
@@ -103,6 +104,7 @@ pub record Cursor (shapes : List ℕ) (rec : Record) (mem : List ℕ) (cell : �
       (lit : Bool) → isOn (rec .counter) cell ≡ false → (row : ℕ)
       → cellRow shapes rec mem lit row cell ≡ rowOf shapes mem (getD mem cell 0) row
 
+-- So it is for every table, record, memory and cell.
 abbrev pub CursorShows : Type 0
 CursorShows = (shapes : List ℕ) (rec : Record) (mem : List ℕ) (cell : ℕ) → Cursor shapes rec mem cell
 

@@ -21,6 +21,7 @@ pub record Reply : Type 0 where
   pub answer : Answer
   pub plan : List Sent
 
+-- A refusal: this answer, and no records.
 abbrev pub turnedDown : Answer → Reply
 turnedDown answer = record { answer = answer; plan = [] }
 

@@ -27,9 +27,11 @@ pub record Command : Type 0 where
   pub kind : ℕ
   pub byte : ℕ
 
+-- An instruction write of this byte.
 abbrev pub instruction : ℕ → Command
 instruction byte = record { kind = 0; byte = byte }
 
+-- A data write of this byte.
 abbrev pub write : ℕ → Command
 write byte = record { kind = 1; byte = byte }
 
@@ -84,10 +86,11 @@ commands wish marks values =
 unfoldable pub timeOf : Command → ℕ
 timeOf command = cond (eqb (command .kind) 0 && eqb (command .byte) 0x02) longTime shortTime
 
--- A command's first half, after this wait, and its second, which waits 1.
+-- A command's first half, after this wait.
 abbrev pub firstSent : ℕ → Command → Sent
 firstSent wait command = record { kind = command .kind; byte = highHalf (command .byte); wait = wait }
 
+-- Its second half, which waits 1.
 abbrev pub secondSent : Command → Sent
 secondSent command = record { kind = command .kind; byte = lowHalf (command .byte); wait = 1 }
 
@@ -112,6 +115,7 @@ numberFrom first second third fourth = first + second * 256 + third * 65536 + fo
 abbrev pub sixBytes : Sent → List ℕ
 sixBytes t = t .kind ∷ t .byte ∷ littleEndian (t .wait)
 
+-- The bytes of these records, one after the other.
 unfoldable pub encoded : List Sent → List ℕ
 encoded [] = []
 encoded (t ∷ ts) = sixBytes t ++ encoded ts

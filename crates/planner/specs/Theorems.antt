@@ -90,6 +90,7 @@ fullWish =
       cursor = 0;
     }
 
+-- It is a wish, and its plan has 468 records.
 abbrev pub Reaches468 : Type 0
 Reaches468 = (isWish fullWish (all 1) ≡ true) × (length (planOf fullWish (all 1) (all 0)) ≡ 468)
 

@@ -8,6 +8,7 @@ use Rattle.lines.specs.Theorems.{ReaderAnswers, WriterAnswers}
 use Rattle.planner.specs.Theorems.{PlanAnswers}
 use Rattle.player.specs.Theorems.{PlayAnswers}
 
+-- Of every call that returns an answer, the theorem that says where each of its numbers is given.
 pub record EachAnswer : Type 0 where
   pub transfer : TransferAnswers
   pub reset : ResetAnswers

@@ -4,6 +4,7 @@ use Rattle.controller.specs.Cases.{P1, P2, P3, P4, P6, P8, P9, P10, P11}
 use Rattle.glass.specs.Cases.{P5, P7}
 use Rattle.planner.specs.Theorems.{P12}
 
+-- P1 to P12.
 pub record BenchCases : Type 0 where
   pub p1 : P1
   pub p2 : P2
