@@ -16,7 +16,7 @@ use Rattle.lines.specs.declared.reader.Line.{Line}
 use Rattle.lines.specs.declared.writer.Written.{Written}
 use Rattle.lines.specs.Line.{line, waitLimit}
 use Rattle.lines.specs.Reading.{lineOf, badLine}
-use Rattle.lines.specs.Writing.{Writing, Meets, writing, lineWriting}
+use Rattle.lines.specs.Writing.{Writing, Meets, writing, wanting, lineWriting}
 
 -- A transfer that a line can say: a kind 0 to 3, a byte, 00h for a read, and a wait 0 to 4,294,967,295.
 pub record Sayable (kind byte wait : ℕ) : Type 0 where
@@ -79,6 +79,14 @@ writerRows kind byte out =
 -- Each number is given exactly where its row applies and none before it in the order.
 abbrev pub WriterAnswers : Type 0
 WriterAnswers = (kind byte wait : ℕ) (out : List ℕ) (n : ℕ) → (numberOf (lineWriting kind byte wait out .answer) ≡ n) ↔ Given n (writerRows kind byte out)
+
+-- The row of a call for which the buffer must have this size: 11.
+unfoldable pub wantingRows : ℕ → List ℕ → List Row
+wantingRows size out = record { number = 11; applies = ltb (length out) size } ∷ []
+
+-- A call that writes a report's row or header gives 11 exactly where the buffer is shorter than wanted.
+abbrev pub TextAnswers : Type 0
+TextAnswers = (size : ℕ) (text out : List ℕ) (n : ℕ) → (numberOf (wanting size text out .answer) ≡ n) ↔ Given n (wantingRows size out)
 
 -- A line is at most 16 bytes, so that the buffer that the writer wants takes it.
 abbrev pub LinesFit : Type 0

@@ -17,7 +17,7 @@ use Rattle.drawing.proofs.Theorems.{draw-answers, draw-refusals}
 use Rattle.glass.proofs.Theorems.{each-byte, later-stay, picture-answers, picture-refusals}
 use Rattle.interface.proofs.Theorems.Answers.{call-answers}
 use Rattle.interface.proofs.Theorems.Refusals.{call-refusals}
-use Rattle.lines.proofs.Theorems.One.{one-reading, writer-answers}
+use Rattle.lines.proofs.Theorems.One.{one-reading, writer-answers, text-answers}
 use Rattle.lines.proofs.Theorems.Read.{reader-answers, read-writes-back}
 use Rattle.lines.proofs.Theorems.Written.{written-reads-back}
 use Rattle.lines.specs.Writing.{Writing, onto, wanting, lineWriting}
@@ -40,6 +40,7 @@ each-answer =
       plan = plan-answers;
       reader = reader-answers;
       writer = writer-answers;
+      texts = text-answers;
       play = play-answers;
       draw = draw-answers;
       c-calls = call-answers;

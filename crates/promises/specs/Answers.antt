@@ -4,11 +4,11 @@ use Rattle.controller.specs.Theorems.{TransferAnswers, ResetAnswers}
 use Rattle.drawing.specs.Theorems.{DrawAnswers}
 use Rattle.glass.specs.Theorems.{PictureAnswers}
 use Rattle.interface.specs.Theorems.{CallAnswers}
-use Rattle.lines.specs.Theorems.{ReaderAnswers, WriterAnswers}
+use Rattle.lines.specs.Theorems.{ReaderAnswers, WriterAnswers, TextAnswers}
 use Rattle.planner.specs.Theorems.{PlanAnswers}
 use Rattle.player.specs.Theorems.{PlayAnswers}
 
--- Of every call that returns an answer, the theorem that says where each of its numbers is given.
+-- Of every call that returns an answer, the theorem that says where each of its numbers is given; `texts` speaks of rows and header.
 pub record EachAnswer : Type 0 where
   pub transfer : TransferAnswers
   pub reset : ResetAnswers
@@ -16,6 +16,7 @@ pub record EachAnswer : Type 0 where
   pub plan : PlanAnswers
   pub reader : ReaderAnswers
   pub writer : WriterAnswers
+  pub texts : TextAnswers
   pub play : PlayAnswers
   pub draw : DrawAnswers
   pub c-calls : CallAnswers

@@ -1,4 +1,4 @@
--- No line has two readings, each number of the writer is given exactly where its row applies, and no second answer fits.
+-- No line has two readings, each number of the calls that write is given exactly where its row applies, and no second answer fits.
 -- Assumes nothing.
 use mathlib.Core.Bool.{Bool, true, false, cond, true≢false, false≢true}
 use mathlib.Core.List.{List, _++_}
@@ -16,7 +16,7 @@ use Rattle.lines.specs.declared.reader.Line.{Line}
 use Rattle.lines.specs.Line.{line}
 use Rattle.lines.specs.Reading.{lineOf}
 use Rattle.lines.specs.Writing.{lineWriting, wanting}
-use Rattle.lines.specs.Theorems.{readAs, OneReading, writerRows, WriterAnswers, OneWriting, OneRead}
+use Rattle.lines.specs.Theorems.{readAs, OneReading, writerRows, WriterAnswers, wantingRows, TextAnswers, OneWriting, OneRead}
 use Rattle.lines.proofs.Laws.Digits.{either}
 use Rattle.lines.proofs.Theorems.Written.{written-reads-back}
 
@@ -66,3 +66,16 @@ writer-number kind byte wait out =
 pub writer-answers : WriterAnswers
 unfolding writerRows Given
 writer-answers kind byte wait out n = rw (writer-number kind byte wait out) (two-rows (badTransfer kind byte) (ltb (length out) 16) n)
+
+-- one row, by its condition
+one-row : (short : Bool) (n : ℕ) → (cond short 11 0 ≡ n) ↔ (((short ≡ true) × (11 ≡ n)) ⊎ ((short ≡ false) × (n ≡ 0)))
+one-row true n = (λ e. inl (refl, e), λ g. ⊎-elim (λ h. h .1) (λ h. absurd (true≢false (h .0))) g)
+one-row false n = (λ e. inr (refl, sym e), λ g. ⊎-elim (λ h. absurd (false≢true (h .0))) (λ h. sym (h .1)) g)
+
+text-number : (size : ℕ) (text out : List ℕ) → numberOf (wanting size text out .answer) ≡ cond (ltb (length out) size) 11 0
+unfolding wanting numberOf
+text-number size text out = either (ltb (length out) size) (λ e. simp e) (λ e. simp e)
+
+pub text-answers : TextAnswers
+unfolding wantingRows Given
+text-answers size text out n = rw (text-number size text out) (one-row (ltb (length out) size) n)
