@@ -10,7 +10,7 @@ use Rattle.controller.specs.declared.decision.Answer.{Answer}
 use Rattle.controller.specs.declared.decision.Answer.the-variants.{Done, Unsound, NotWhole, BadSize, OutputShort}
 use Rattle.controller.specs.declared.«record».Record.{Record}
 use Rattle.controller.specs.Bus.{whole}
-use Rattle.controller.specs.Decision.{isRefusal}
+use Rattle.controller.specs.Decision.{numberOf, isRefusal}
 use Rattle.controller.specs.Record.{sound}
 use Rattle.glass.specs.Geometry.{fitsGlass, height}
 use Rattle.glass.specs.Picture.{output, painted}
@@ -103,9 +103,10 @@ telling answer long = record { answer = answer; length = cond (isRefusal answer)
 abbrev pub leaving : Answer → (ℕ → ℕ) → ℕ → List ℕ → List ℕ
 leaving answer byte long out = cond (isRefusal answer) out (painted byte 0 long out)
 
--- What `draw` promises: what is told, and every byte of the output.
+-- What `draw` promises: what is told, its number in the table, and every byte of the output.
 pub record Drawn (form : Form) (rec : Record) (mem : List ℕ) (columns lines : ℕ) (lit : Bool) (before : List ℕ) (returned : Written) (after : List ℕ) : Type 0 where
   pub told : returned ≡ telling (answering form rec mem columns lines (length before)) (lengthOf form (sizeFor rec columns lines))
+  pub number : numberOf (returned .answer) ≡ numberOf (answering form rec mem columns lines (length before))
   pub out :
       after
       ≡ leaving (answering form rec mem columns lines (length before))

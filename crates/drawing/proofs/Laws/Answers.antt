@@ -22,7 +22,7 @@ use Rattle.glass.proofs.Places.{height-most}
 use Rattle.lines.specs.declared.writer.Written.{Written}
 use Rattle.drawing.specs.declared.drawing.Form.{Form}
 use Rattle.drawing.specs.Grid.{Small}
-use Rattle.drawing.specs.Drawing.{Drawn, Taken, answering, dotsOf, sizeFor}
+use Rattle.drawing.specs.Drawing.{Drawn, Taken, answering, dotsOf, lengthOf, sizeFor, telling}
 
 -- the picture's answer, by its three tests
 pub picture-answer : (rec : Record) (mem : List ℕ) (columns lines : ℕ) (s w f : Bool) → sound rec ≡ s → whole mem ≡ w → fitsGlass columns lines ≡ f
@@ -69,14 +69,16 @@ module _ (form : Form) (rec : Record) (mem : List ℕ) (columns lines : ℕ) (li
       go : (s w f : Bool) → sound rec ≡ s → whole mem ≡ w → fitsGlass columns lines ≡ f
           → Drawn form rec mem columns lines lit before (record { answer = answered rec mem columns lines 640; length = 0 }) before
       go true true true is-s is-w is-f = let told = rw (picture-answer rec mem columns lines true true true is-s is-w is-f) at not-done in let z : _≡_ {A = ℕ} 0 1 = cc in absurd (omega arith)
-      go true true false is-s is-w is-f = rw (picture-answer rec mem columns lines true true false is-s is-w is-f) (record { told = simp (is-s, is-w, is-f); out = simp (is-s, is-w, is-f) })
-      go true false f is-s is-w is-f = rw (picture-answer rec mem columns lines true false f is-s is-w is-f) (record { told = simp (is-s, is-w); out = simp (is-s, is-w) })
-      go false w f is-s is-w is-f = rw (picture-answer rec mem columns lines false w f is-s is-w is-f) (record { told = simp is-s; out = simp is-s })
+      go true true false is-s is-w is-f = rw (picture-answer rec mem columns lines true true false is-s is-w is-f) (record { told = simp (is-s, is-w, is-f); number = simp (is-s, is-w, is-f); out = simp (is-s, is-w, is-f) })
+      go true false f is-s is-w is-f = rw (picture-answer rec mem columns lines true false f is-s is-w is-f) (record { told = simp (is-s, is-w); number = simp (is-s, is-w); out = simp (is-s, is-w) })
+      go false w f is-s is-w is-f = rw (picture-answer rec mem columns lines false w f is-s is-w is-f) (record { told = simp is-s; number = simp is-s; out = simp is-s })
 
   -- a picture that was taken: 11 is left to be given
   pub taken-drawn : {returned : Written} {after : List ℕ} → Seen rec mem columns lines
       → Taken form (dotsOf rec mem columns lines lit) mem rec (sizeFor rec columns lines) before returned after
       → Drawn form rec mem columns lines lit before returned after
   unfolding answering
-  taken-drawn s taken =
-      record { told = simp (s .sound, s .whole, s .fits) (taken .told); out = simp (s .sound, s .whole, s .fits) (taken .out) }
+  taken-drawn {returned} {after} s taken =
+      let told : returned ≡ telling (answering form rec mem columns lines (length before)) (lengthOf form (sizeFor rec columns lines)) =
+      simp (s .sound, s .whole, s .fits) (taken .told) in
+      record { told = told; number = ap (λ (w : Written). numberOf (w .answer)) told; out = simp (s .sound, s .whole, s .fits) (taken .out) }
