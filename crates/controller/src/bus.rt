@@ -67,7 +67,7 @@ fn decide_later(memory: &[u8], kind: u8, byte: u8, rec: Record, later: Record) -
     accept(memory, kind, byte, later)
 }
 
-// What a transfer comes to.
+// What a transfer comes to. Refusals 1, 2 and 3 come before the wait and leave the record as found.
 fn decide(rec: Record, memory: &[u8], kind: u8, byte: u8, wait: u32) -> Decision
     ensures { λ r. ⌜ r ≡ decided rec (now (memory .entry)) kind byte wait ⌝ }
 {
@@ -77,10 +77,11 @@ fn decide(rec: Record, memory: &[u8], kind: u8, byte: u8, wait: u32) -> Decision
     if !is_whole(memory) {
         return refuse(Answer::NotWhole, rec);
     }
+    let later = after_wait(wait, rec);
     if is_bad(kind, byte) {
         return refuse(Answer::BadTransfer, rec);
     }
-    decide_later(memory, kind, byte, rec, after_wait(wait, rec))
+    decide_later(memory, kind, byte, rec, later)
 }
 
 // What reset comes to.
