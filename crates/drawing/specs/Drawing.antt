@@ -112,10 +112,11 @@ pub record Drawn (form : Form) (rec : Record) (mem : List ℕ) (columns lines : 
       ≡ leaving (answering form rec mem columns lines (length before))
       (byteAt form (dotsOf rec mem columns lines lit) mem rec (sizeFor rec columns lines)) (lengthOf form (sizeFor rec columns lines)) before
 
--- The same for a picture that was taken: 11 is left to be given.
+-- Of a picture that was taken 11 is left to be given.
 abbrev pub roomAnswer : Form → Size → ℕ → Answer
 roomAnswer form size room = cond (ltb room (lengthOf form size)) OutputShort Done
 
+-- What is promised of drawing a picture that was taken: what is told, and every byte of the output.
 pub record Taken (form : Form) (dots mem : List ℕ) (rec : Record) (size : Size) (before : List ℕ) (returned : Written) (after : List ℕ) : Type 0 where
   pub told : returned ≡ telling (roomAnswer form size (length before)) (lengthOf form size)
   pub out : after ≡ leaving (roomAnswer form size (length before)) (byteAt form dots mem rec size) (lengthOf form size) before

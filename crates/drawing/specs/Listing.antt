@@ -58,10 +58,11 @@ listingAt mem n shift size x line =
     (cond (ltb x 10) (getD (labelFor line) x 0)
     (cellAt mem n shift size (line * 16 + (x - 10) / 4) ((x - 10) % 4)))
 
--- A line of the listing: ten bytes of label, sixteen cells of four bytes, and a newline. There are nine.
+-- A line of the listing: ten bytes of label, sixteen cells of four bytes, and a newline.
 abbrev pub listingWidth : ℕ
 listingWidth = 75
 
+-- The nine lines.
 abbrev pub listingLength : ℕ
 listingLength = 9 * listingWidth
 
