@@ -7,215 +7,156 @@ use crate::model::{self, Counter, Half, Line, Reader, Record, Step, Wish, FONT};
 // Transfers
 // ---------------------------------------------------------------------------
 
-/// The byte of the instruction that this transfer has completed, if it has one.
-fn completed_instruction(before: &Record, kind: u8, byte: u8, answer: u8) -> Option<u8> {
-    let done = answer == model::DONE || answer == model::CROSSED;
-    match before.half {
-        Half::InstructionWrite(high) if done => Some((high << 4) | (byte >> 4)),
-        Half::None if done && kind == model::INSTRUCTION_WRITE => Some(byte),
-        _ => None,
+/// A transfer that the model has made: how it was sent, and what it came to.
+struct Made {
+    before: Record,
+    kind: u8,
+    byte: u8,
+    wait: u32,
+    answer: u8,
+    read: u8,
+    new: Record,
+}
+
+impl Made {
+    /// The byte of the instruction that this transfer has completed, if it has one.
+    fn instruction(&self) -> Option<u8> {
+        let done = self.answer == model::DONE || self.answer == model::CROSSED;
+        match self.before.half {
+            Half::InstructionWrite(high) if done => Some((high << 4) | (self.byte >> 4)),
+            Half::None if done && self.kind == model::INSTRUCTION_WRITE => Some(self.byte),
+            _ => None,
+        }
+    }
+
+    /// Has a data read been completed by this transfer?
+    fn is_read(&self) -> bool {
+        let done = matches!(self.answer, model::DONE | model::STALE | model::CROSSED);
+        match self.before.half {
+            Half::DataRead(_) => done,
+            Half::None => done && self.kind == model::DATA_READ,
+            _ => false,
+        }
     }
 }
 
-/// Has a data read been completed by this transfer?
-fn completed_read(before: &Record, kind: u8, answer: u8) -> bool {
-    let done = matches!(answer, model::DONE | model::STALE | model::CROSSED);
-    match before.half {
-        Half::DataRead(_) => done,
-        Half::None => done && kind == model::DATA_READ,
-        _ => false,
-    }
+/// The model's transfer, and then a fault in what it came to.
+macro_rules! then {
+    ($fault:ident) => {
+        |before, memory, kind, byte, wait| {
+            let (answer, read, new) = model::transfer(before, memory, kind, byte, wait);
+            let mut made = Made {
+                before,
+                kind,
+                byte,
+                wait,
+                answer,
+                read,
+                new,
+            };
+            $fault(&mut made);
+            (made.answer, made.read, made.new)
+        }
+    };
 }
 
 /// Clear sets I/D=1, as document 003 has it.
-fn clear_increments(
-    before: Record,
-    memory: &mut [u8],
-    kind: u8,
-    byte: u8,
-    wait: u32,
-) -> (u8, u8, Record) {
-    let (answer, read, mut new) = model::transfer(before, memory, kind, byte, wait);
-    if completed_instruction(&before, kind, byte, answer) == Some(0x01) {
-        new.id = true;
+fn clear_increments(made: &mut Made) {
+    if made.instruction() == Some(0x01) {
+        made.new.id = true;
     }
-    (answer, read, new)
 }
 
 /// Clear leaves a fresh register fresh.
-fn clear_keeps_fresh(
-    before: Record,
-    memory: &mut [u8],
-    kind: u8,
-    byte: u8,
-    wait: u32,
-) -> (u8, u8, Record) {
-    let (answer, read, mut new) = model::transfer(before, memory, kind, byte, wait);
-    if completed_instruction(&before, kind, byte, answer) == Some(0x01) {
-        new.fresh = before.fresh;
+fn clear_keeps_fresh(made: &mut Made) {
+    if made.instruction() == Some(0x01) {
+        made.new.fresh = made.before.fresh;
     }
-    (answer, read, new)
 }
 
 /// A data read with S=1 shifts the display. No session shows the shift: this one is
 /// found out by calls alone.
-fn read_shifts(
-    before: Record,
-    memory: &mut [u8],
-    kind: u8,
-    byte: u8,
-    wait: u32,
-) -> (u8, u8, Record) {
-    let (answer, read, mut new) = model::transfer(before, memory, kind, byte, wait);
-    if completed_read(&before, kind, answer) && new.s && matches!(new.counter, Counter::Display(_))
-    {
-        new.shift = (new.shift + if new.id { 1 } else { 79 }) % 80;
+fn read_shifts(made: &mut Made) {
+    let displayed = matches!(made.new.counter, Counter::Display(_));
+    if displayed && made.new.s && made.is_read() {
+        made.new.shift = (made.new.shift + if made.new.id { 1 } else { 79 }) % 80;
     }
-    (answer, read, new)
 }
 
 /// A data read leaves the counter where it was.
-fn read_stays(
-    before: Record,
-    memory: &mut [u8],
-    kind: u8,
-    byte: u8,
-    wait: u32,
-) -> (u8, u8, Record) {
-    let (answer, read, mut new) = model::transfer(before, memory, kind, byte, wait);
-    if completed_read(&before, kind, answer) {
-        new.counter = before.counter;
+fn read_stays(made: &mut Made) {
+    if made.is_read() {
+        made.new.counter = made.before.counter;
     }
-    (answer, read, new)
 }
 
 /// A cursor move in pattern memory keeps a fresh register fresh.
-fn pattern_move_fresh(
-    before: Record,
-    memory: &mut [u8],
-    kind: u8,
-    byte: u8,
-    wait: u32,
-) -> (u8, u8, Record) {
-    let (answer, read, mut new) = model::transfer(before, memory, kind, byte, wait);
-    if let (Some(0x10..=0x17), Counter::Pattern(_)) = (
-        completed_instruction(&before, kind, byte, answer),
-        new.counter,
-    ) {
-        new.fresh = before.fresh;
+fn pattern_move_fresh(made: &mut Made) {
+    if let (Some(0x10..=0x17), Counter::Pattern(_)) = (made.instruction(), made.new.counter) {
+        made.new.fresh = made.before.fresh;
     }
-    (answer, read, new)
 }
 
 /// Instruction 00h takes no time.
-fn nothing_takes_nothing(
-    before: Record,
-    memory: &mut [u8],
-    kind: u8,
-    byte: u8,
-    wait: u32,
-) -> (u8, u8, Record) {
-    let (answer, read, mut new) = model::transfer(before, memory, kind, byte, wait);
-    if completed_instruction(&before, kind, byte, answer) == Some(0x00) {
-        new.busy = 0;
+fn nothing_takes_nothing(made: &mut Made) {
+    if made.instruction() == Some(0x00) {
+        made.new.busy = 0;
     }
-    (answer, read, new)
 }
 
 /// An address without a cell takes its 40.
-fn no_cell_takes_time(
-    before: Record,
-    memory: &mut [u8],
-    kind: u8,
-    byte: u8,
-    wait: u32,
-) -> (u8, u8, Record) {
-    let (answer, read, mut new) = model::transfer(before, memory, kind, byte, wait);
-    if answer == model::NO_CELL {
-        new.busy = model::SHORT_TIME;
+fn no_cell_takes_time(made: &mut Made) {
+    if made.answer == model::NO_CELL {
+        made.new.busy = model::SHORT_TIME;
     }
-    (answer, read, new)
 }
 
 /// Changing N keeps the address instead of the cell.
-fn n_keeps_address(
-    before: Record,
-    memory: &mut [u8],
-    kind: u8,
-    byte: u8,
-    wait: u32,
-) -> (u8, u8, Record) {
-    let (answer, read, mut new) = model::transfer(before, memory, kind, byte, wait);
-    if let Counter::Display(cell) = new.counter {
-        let cell = match (before.n, new.n) {
+fn n_keeps_address(made: &mut Made) {
+    if let Counter::Display(cell) = made.new.counter {
+        let cell = match (made.before.n, made.new.n) {
             (true, false) if cell >= 40 => (cell + 24) % 80,
             (false, true) if cell >= 64 => cell - 24,
             _ => cell,
         };
-        new.counter = Counter::Display(cell);
+        made.new.counter = Counter::Display(cell);
     }
-    (answer, read, new)
 }
 
 /// A busy refusal does not count its wait.
-fn refusal_counts_no_wait(
-    before: Record,
-    memory: &mut [u8],
-    kind: u8,
-    byte: u8,
-    wait: u32,
-) -> (u8, u8, Record) {
-    let (answer, read, new) = model::transfer(before, memory, kind, byte, wait);
-    if answer == model::BUSY {
-        return (answer, read, before);
+fn refusal_counts_no_wait(made: &mut Made) {
+    if made.answer == model::BUSY {
+        made.new = made.before;
     }
-    (answer, read, new)
 }
 
 /// Crossed halves are answered 0.
-fn crossed_unseen(
-    before: Record,
-    memory: &mut [u8],
-    kind: u8,
-    byte: u8,
-    wait: u32,
-) -> (u8, u8, Record) {
-    let (answer, read, new) = model::transfer(before, memory, kind, byte, wait);
-    let answer = if answer == model::CROSSED {
-        model::DONE
-    } else {
-        answer
-    };
-    (answer, read, new)
+fn crossed_unseen(made: &mut Made) {
+    if made.answer == model::CROSSED {
+        made.answer = model::DONE;
+    }
 }
 
 /// A crossed read gives nothing to the write that completes it.
-fn crossed_read_silent(
-    before: Record,
-    memory: &mut [u8],
-    kind: u8,
-    byte: u8,
-    wait: u32,
-) -> (u8, u8, Record) {
-    let (answer, read, new) = model::transfer(before, memory, kind, byte, wait);
-    let read = if answer == model::CROSSED { 0x00 } else { read };
-    (answer, read, new)
+fn crossed_read_silent(made: &mut Made) {
+    if made.answer == model::CROSSED {
+        made.read = 0x00;
+    }
 }
 
 /// The pattern counter runs down from 0 to 63 only when writing; a read stays at 0.
-fn pattern_read_stops(
-    before: Record,
-    memory: &mut [u8],
-    kind: u8,
-    byte: u8,
-    wait: u32,
-) -> (u8, u8, Record) {
-    let (answer, read, mut new) = model::transfer(before, memory, kind, byte, wait);
-    if completed_read(&before, kind, answer) && !before.id && before.counter == Counter::Pattern(0)
-    {
-        new.counter = Counter::Pattern(0);
+fn pattern_read_stops(made: &mut Made) {
+    let at_first = made.before.counter == Counter::Pattern(0);
+    if at_first && !made.before.id && made.is_read() {
+        made.new.counter = Counter::Pattern(0);
     }
-    (answer, read, new)
+}
+
+/// A kind above 3 is refused, and its wait counted.
+fn bad_kind_counts_wait(made: &mut Made) {
+    if made.answer == model::WRONG_KIND {
+        made.new.busy = made.new.busy.saturating_sub(made.wait);
+    }
 }
 
 /// Busy is over one microsecond too late.
@@ -230,21 +171,6 @@ fn busy_one_off(
         return model::transfer(before, memory, kind, byte, wait - 1);
     }
     model::transfer(before, memory, kind, byte, wait)
-}
-
-/// A kind above 3 is refused, and its wait counted.
-fn bad_kind_counts_wait(
-    before: Record,
-    memory: &mut [u8],
-    kind: u8,
-    byte: u8,
-    wait: u32,
-) -> (u8, u8, Record) {
-    let (answer, read, mut new) = model::transfer(before, memory, kind, byte, wait);
-    if answer == model::WRONG_KIND {
-        new.busy = new.busy.saturating_sub(wait);
-    }
-    (answer, read, new)
 }
 
 // ---------------------------------------------------------------------------
@@ -452,19 +378,19 @@ fn line_runs_over(kind: u8, byte: u8, wait: u32, out: &mut [u8]) -> (u8, usize) 
 // ---------------------------------------------------------------------------
 
 const WRONG_STEPS: [(&str, Step); 13] = [
-    ("clear-increments", clear_increments),
-    ("clear-keeps-fresh", clear_keeps_fresh),
-    ("read-stays", read_stays),
-    ("pattern-move-fresh", pattern_move_fresh),
-    ("nothing-takes-nothing", nothing_takes_nothing),
-    ("no-cell-takes-time", no_cell_takes_time),
-    ("n-keeps-address", n_keeps_address),
-    ("refusal-counts-no-wait", refusal_counts_no_wait),
-    ("crossed-unseen", crossed_unseen),
-    ("crossed-read-silent", crossed_read_silent),
-    ("pattern-read-stops", pattern_read_stops),
+    ("clear-increments", then!(clear_increments)),
+    ("clear-keeps-fresh", then!(clear_keeps_fresh)),
+    ("read-stays", then!(read_stays)),
+    ("pattern-move-fresh", then!(pattern_move_fresh)),
+    ("nothing-takes-nothing", then!(nothing_takes_nothing)),
+    ("no-cell-takes-time", then!(no_cell_takes_time)),
+    ("n-keeps-address", then!(n_keeps_address)),
+    ("refusal-counts-no-wait", then!(refusal_counts_no_wait)),
+    ("crossed-unseen", then!(crossed_unseen)),
+    ("crossed-read-silent", then!(crossed_read_silent)),
+    ("pattern-read-stops", then!(pattern_read_stops)),
     ("busy-one-off", busy_one_off),
-    ("read-shifts", read_shifts),
+    ("read-shifts", then!(read_shifts)),
 ];
 
 const WRONG_READERS: [(&str, Reader); 4] = [
@@ -475,7 +401,7 @@ const WRONG_READERS: [(&str, Reader); 4] = [
 ];
 
 /// No session has a kind above 3.
-const UNSEEN_STEPS: [(&str, Step); 1] = [("bad-kind-counts-wait", bad_kind_counts_wait)];
+const UNSEEN_STEPS: [(&str, Step); 1] = [("bad-kind-counts-wait", then!(bad_kind_counts_wait))];
 
 const WRONG_RECORDS: [(&str, RecordReader); 1] = [("last-byte-unseen", last_byte_unseen)];
 
