@@ -134,8 +134,8 @@ impl Trial {
     }
 }
 
-/// Decision 13: "Stands as wished" fixes the whole record.
-fn wished_record(wish: &Wish, memory: &[u8]) -> Record {
+/// Reading 12: "Stands as wished" fixes the whole record.
+pub fn wished_record(wish: &Wish, memory: &[u8]) -> Record {
     Record {
         width: 4,
         n: wish.n,

@@ -1,8 +1,8 @@
 //! The rules of document 01 (`01-scope.md`) in plain Rust.
 //!
 //! Written from the documents alone, apart from the proved code.
-//! Sentences in quotation marks are those of document 01; "decision n" is the
-//! n-th of the readings already taken. Time is whole microseconds.
+//! Sentences in quotation marks are those of document 01; "reading n" is the
+//! n-th reading of docs/DECISIONS.md. Time is whole microseconds.
 //!
 //! Every function is total, and a refusal leaves lent bytes as it found them.
 
@@ -105,7 +105,7 @@ pub fn is_sound(rec: &Record) -> bool {
     };
     let busy = rec.busy <= LONGEST_BUSY;
     // "A half waits only at width 4; unless it is a status read, busy is 0."
-    // Decisions 1 and 2: a write half holds four bits, a read half any byte.
+    // Readings 1 and 2: a write half holds four bits, a read half any byte.
     let half = match rec.half {
         Half::None => true,
         Half::InstructionWrite(high) | Half::DataWrite(high) => {
@@ -139,7 +139,7 @@ pub fn record_after_reset() -> Record {
 }
 
 /// "Reset: display cells 20h, pattern cells untouched", and the record above.
-/// "Reset: 2"; "a refused reset returns the record it was given". Decision 8: the
+/// "Reset: 2"; "a refused reset returns the record it was given". Reading 8: the
 /// record is not looked at.
 pub fn reset(rec: Record, mem: &mut [u8]) -> (u8, Record) {
     if mem.len() != MEMORY {
@@ -232,7 +232,7 @@ pub fn transfer(rec: Record, mem: &mut [u8], kind: u8, byte: u8, wait: u32) -> (
     if mem.len() != MEMORY {
         return (WRONG_LENGTH, 0x00, rec);
     }
-    // "kind above 3, or a read with a byte". Decision 3: no wait is counted.
+    // "kind above 3, or a read with a byte". Reading 3: no wait is counted.
     if kind > DATA_READ || (is_read(kind) && byte != 0x00) {
         return (WRONG_KIND, 0x00, rec);
     }
@@ -241,7 +241,7 @@ pub fn transfer(rec: Record, mem: &mut [u8], kind: u8, byte: u8, wait: u32) -> (
     let mut rec = rec;
     rec.busy = rec.busy.saturating_sub(wait);
 
-    // Decision 4: with a half waiting, busy never refuses.
+    // Reading 4: with a half waiting, busy never refuses.
     if rec.half != Half::None {
         return second_half(rec, mem, kind, byte);
     }
@@ -318,7 +318,7 @@ fn second_half(mut rec: Record, mem: &mut [u8], kind: u8, byte: u8) -> (u8, u8, 
         Half::None => (kind, DONE, 0x00),
     };
 
-    // Decision 5: 6 and 7 win over 8.
+    // Reading 5: 6 and 7 win over 8.
     if answer == DONE && kind != first_kind {
         (CROSSED, returned, rec)
     } else {
@@ -329,7 +329,7 @@ fn second_half(mut rec: Record, mem: &mut [u8], kind: u8, byte: u8) -> (u8, u8, 
 /// "Instructions, by highest set bit (document 002)".
 fn perform_instruction(rec: &mut Record, mem: &mut [u8], byte: u8) -> u8 {
     match byte {
-        // "00h: nothing." Decision 7: it still takes 40.
+        // "00h: nothing." Reading 7: it still takes 40.
         0x00 => {}
         // "Clear: display cells 20h, counter cell 0, shift 0, register stale; the
         // rest stays".
@@ -356,7 +356,7 @@ fn perform_instruction(rec: &mut Record, mem: &mut [u8], byte: u8) -> u8 {
         0x80..=0xFF => match display_cell(rec.n, byte & 0x7F) {
             Some(cell) => set_counter(rec, mem, Counter::Display(cell)),
             // "display address without a cell: wait counted, half gone, rest as
-            // found". Decision 7: no busy time.
+            // found". Reading 7: no busy time.
             None => return NO_CELL,
         },
     }
@@ -461,7 +461,7 @@ pub fn picture(
     if !(1..=40).contains(&columns) || !(1..=2).contains(&lines) {
         return OUT_OF_RANGE;
     }
-    // Decision 9: exactly lines x 8 x columns bytes are wanted, also with D=0.
+    // Reading 14: exactly lines x 8 x columns bytes are wanted, also with D=0.
     if out.len() < lines as usize * 8 * columns as usize {
         return TOO_SHORT;
     }
@@ -608,7 +608,7 @@ pub fn plan(wish: &Wish, marks: &[u8], values: &[u8], out: &mut [u8]) -> (u8, us
     if !is_wish(wish, marks) {
         return (NOT_A_WISH, 0);
     }
-    // Decision 10: always 2,808, however little is written.
+    // Reading 11: always 2,808, however little is written.
     if out.len() < PLAN_BYTES {
         return (TOO_SHORT, 0);
     }
@@ -727,7 +727,7 @@ pub struct Line {
 }
 
 /// Reads the line at the start of the text: answer, kind, byte, wait, length.
-/// "Reader: 12." Decision 11: a refusal returns zeros for everything.
+/// "Reader: 12." Reading 16: a refusal returns zeros for everything.
 pub fn read_line(text: &[u8]) -> (u8, Line) {
     match parse_line(text) {
         Some(line) => (DONE, line),

@@ -1,5 +1,6 @@
 //! The bench cases P1 to P12 of document 01, and the plan played back.
 
+use yaropesk_model::demand::wished_record;
 use yaropesk_model::model::*;
 
 /// A controller with its memory, busy already over.
@@ -252,26 +253,6 @@ fn p12_plan_of_a_plain_wish() {
     assert!(out[18 * 6..].iter().all(|&byte| byte == 0xEE));
 }
 
-/// The record as wished, with the cursor's byte in the register (decision 13).
-fn wished_record(wish: &Wish, register: u8) -> Record {
-    Record {
-        width: 4,
-        n: wish.n,
-        f: wish.f,
-        d: wish.d,
-        c: wish.c,
-        b: wish.b,
-        id: wish.id,
-        s: wish.s,
-        shift: wish.shift,
-        counter: Counter::Display(wish.cursor),
-        register,
-        fresh: true,
-        half: Half::None,
-        busy: 40,
-    }
-}
-
 /// Plays a plan after reset: every transfer is done, and the panel stands as wished.
 fn play(wish: &Wish, marks: &[u8; MEMORY], values: &[u8; MEMORY]) -> usize {
     let mut out = [0; PLAN_BYTES];
@@ -292,8 +273,7 @@ fn play(wish: &Wish, marks: &[u8; MEMORY], values: &[u8; MEMORY]) -> usize {
         let wished = [before, *values][usize::from(marks[cell])][cell];
         assert_eq!(bench.mem[cell], wished, "cell {cell}");
     }
-    let register = bench.mem[wish.cursor as usize];
-    assert_eq!(bench.rec, wished_record(wish, register));
+    assert_eq!(bench.rec, wished_record(wish, &bench.mem));
     count
 }
 

@@ -9,7 +9,7 @@ fn main() {
     let mut text = Vec::new();
     // What cannot be read ends the text where it stands.
     let _ = io::stdin().lock().read_to_end(&mut text);
-    // Decision 12: "what cannot be written to standard output is dropped, and the
+    // Reading 17: "what cannot be written to standard output is dropped, and the
     // program ends."
     let _ = io::stdout().lock().write_all(&model::session(&text));
 }
