@@ -73,10 +73,10 @@ done > "$work/links"
 existing < "$work/links" > "$work/links_there"
 all_in 'a link to no file' "$work/links" "$work/links_there"
 
-# --- Programs; the crate `panel` is the program `glass`.
+# --- Programs.
 grep -ohE '\./yaropesk [a-z_]+' README.md docs/*.md examples/README.md | sed 's/.* //' > "$work/programs_named"
 for main in crates/*/src/main.rt; do
-    basename "${main%/src/main.rt}" | sed 's/^panel$/glass/'
+    basename "${main%/src/main.rt}"
 done > "$work/programs"
 all_in 'no such program' "$work/programs_named" "$work/programs"
 

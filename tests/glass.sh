@@ -1,14 +1,14 @@
 #!/bin/sh
-# Runs the program `glass` (target/bin/panel) on every tests/glass/NAME.words, whose first word is the session and the others
+# Runs the program `glass` on every tests/glass/NAME.words, whose first word is the session and the others
 # are the program's, and compares what it writes with NAME.out; then on words that it must turn down, and on input and output
 # that are too long or closed.
 # Prints 'glass: N passed, M failed', and fails where M is not 0.
 set -u
 cd "$(dirname "$0")/.." || exit 1
-program=target/bin/panel
+program=target/bin/glass
 suite=glass
 . tests/common.sh
-is_built "$program" panel
+is_built "$program" glass
 
 for words in tests/glass/*.words; do
     name=$(basename "$words" .words)

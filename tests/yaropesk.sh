@@ -8,7 +8,7 @@ root=$(pwd)
 suite=yaropesk
 . tests/common.sh
 is_built target/bin/session session
-is_built target/bin/panel panel
+is_built target/bin/glass glass
 
 # Runs the script with these words: what it writes, and its status.
 run() {
@@ -71,8 +71,8 @@ run glass --pbm < examples/hello.session
 turns_down 'a word for a file' 'yaropesk: --pbm is no FILE: name a FILE, or - for standard input'
 run nothing
 turns_down 'an unknown program' 'yaropesk: no program is called nothing'
-run panel
-turns_down 'panel' 'yaropesk: no program is called panel'
+run dots
+turns_down 'dots' 'yaropesk: no program is called dots'
 run
 turns_down 'no program' 'usage: ./yaropesk PROGRAM [FILE [WORD...]]'
 

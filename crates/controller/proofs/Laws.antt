@@ -6,4 +6,4 @@ pub mod Kept
 pub mod Taken
 pub mod Memory
 pub mod Completed
-pub mod Rows
+pub mod Answers

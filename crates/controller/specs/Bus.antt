@@ -6,7 +6,7 @@ use mathlib.Core.Path.{_≡_}
 use Prim.Native.Nat.{ℕ}
 use lib.Dec.{ltb, leb, eqb}
 use lib.ListN.{length}
-use Rattle.controller.specs.declared.decision.Answer.the-variants.{Done, Unsound, NotWhole, BadTransfer, Busy, CounterOff}
+use Rattle.controller.specs.declared.answers.Answer.the-variants.{Done, Unsound, NotWhole, BadTransfer, Busy, CounterOff}
 use Rattle.controller.specs.declared.decision.Decision.{Decision}
 use Rattle.controller.specs.declared.decision.Effect.the-variants.{Blank}
 use Rattle.controller.specs.declared.decision.Outcome.{Outcome}
@@ -15,7 +15,8 @@ use Rattle.controller.specs.declared.«record».Half.{Half}
 use Rattle.controller.specs.declared.«record».Half.the-variants.{Empty, InstructionWrite, DataWrite, StatusRead, DataRead}
 use Rattle.controller.specs.declared.«record».Record.{Record}
 use Rattle.controller.specs.Cells.{onCell}
-use Rattle.controller.specs.Decision.{numberOf, refused, performed, outcomeOf}
+use Rattle.controller.specs.Answers.{numberOf}
+use Rattle.controller.specs.Decision.{refused, performed, outcomeOf}
 use Rattle.controller.specs.Halves.{accepted}
 use Rattle.controller.specs.Record.{sound, resetRecord, waited}
 
@@ -59,14 +60,14 @@ unfoldable pub resetDecided : Record → List ℕ → Decision
 resetDecided rec mem = cond (whole mem) (record { answer = Done; byte = 0; rec = resetRecord; effect = Blank }) (refused NotWhole rec)
 
 -- What `transfer` and `reset` promise of a decision: what is returned, its number in the table, and every byte of the memory.
-pub record Meets (d : Decision) (before : List ℕ) (returned : Outcome) (after : List ℕ) : Type 0 where
+pub record Performs (d : Decision) (before : List ℕ) (returned : Outcome) (after : List ℕ) : Type 0 where
   pub told : returned ≡ outcomeOf d
   pub number : numberOf (returned .answer) ≡ numberOf (d .answer)
   pub memory : after ≡ performed (d .effect) before
 
 -- What `transfer_in` promises of a decision: what is told, its number in the table, the record left in the loan, and every byte of the
 -- memory.
-pub record MeetsIn (d : Decision) (before : List ℕ) (returned : Told) (lent : Record) (after : List ℕ) : Type 0 where
+pub record PerformsIn (d : Decision) (before : List ℕ) (returned : Told) (lent : Record) (after : List ℕ) : Type 0 where
   pub told : returned ≡ record { answer = d .answer; byte = d .byte }
   pub number : numberOf (returned .answer) ≡ numberOf (d .answer)
   pub left : lent ≡ d .rec

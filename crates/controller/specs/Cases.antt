@@ -9,18 +9,20 @@ use Prim.Native.Nat.{ℕ, _≤_}
 use lib.ListN.{length, getD}
 use Rattle.controller.specs.declared.cells.Counter.{Counter}
 use Rattle.controller.specs.declared.cells.Counter.the-variants.{Display, Pattern}
-use Rattle.controller.specs.declared.decision.Answer.{Answer}
-use Rattle.controller.specs.declared.decision.Answer.the-variants.{Done, NoCell, CrossedHalves}
+use Rattle.controller.specs.declared.answers.Answer.{Answer}
+use Rattle.controller.specs.declared.answers.Answer.the-variants.{Done, NoCell, CrossedHalves}
 use Rattle.controller.specs.declared.decision.Effect.the-variants.{Keep}
 use Rattle.controller.specs.declared.«record».Half.{Half}
 use Rattle.controller.specs.declared.«record».Half.the-variants.{Empty, InstructionWrite, DataWrite}
 use Rattle.controller.specs.declared.«record».Record.{Record}
 use Rattle.controller.specs.Bus.{decided, resetDecided}
 use Rattle.controller.specs.Cells.{addressOf, placeOf}
-use Rattle.controller.specs.Decision.{numberOf, performed, done}
+use Rattle.controller.specs.Answers.{numberOf}
+use Rattle.controller.specs.Decision.{performed, done}
 use Rattle.controller.specs.Execute.{homed, longTime}
 use Rattle.controller.specs.Record.{sound, waited, withHalf}
-use Rattle.controller.specs.Runs.{State, Sent, decidedOf, after, ran, heard}
+use Rattle.controller.specs.declared.sent.Sent.{Sent}
+use Rattle.controller.specs.Runs.{State, decidedOf, after, ran, heard}
 
 -- A sound controller with its memory whole, of this width, with this half waiting, whose busy time this wait covers.
 pub record Waits (rec : Record) (mem : List ℕ) (wide : Bool) (half : Half) (wait : ℕ) : Type 0 where

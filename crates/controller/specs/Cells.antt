@@ -18,9 +18,14 @@ unfoldable pub placeOf : Counter → ℕ
 placeOf (Display cell) = cell
 placeOf (Pattern cell) = 80 + cell
 
+-- The counter's cell, in whichever memory.
+unfoldable pub cellOf : Counter → ℕ
+cellOf (Display cell) = cell
+cellOf (Pattern cell) = cell
+
 -- The byte in the counter's cell.
-unfoldable pub byteAt : List ℕ → Counter → ℕ
-byteAt mem counter = getD mem (placeOf counter) 0
+unfoldable pub byteUnder : List ℕ → Counter → ℕ
+byteUnder mem counter = getD mem (placeOf counter) 0
 
 -- The counter is on a display cell 0 to 79 or on a pattern cell 0 to 63.
 unfoldable pub onCell : Counter → Bool

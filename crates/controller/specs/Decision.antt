@@ -1,57 +1,17 @@
 -- What a transfer comes to: the answer and byte told, the record left, and the one thing that happens to memory
 -- (document 01, "What each number says").
 -- Assumes nothing.
-use mathlib.Core.Bool.{Bool, true, false}
 use mathlib.Core.List.{List, _++_}
 use Prim.Native.Nat.{ℕ, _<_, _≤_}
-use lib.Dec.{eqb}
 use lib.ListN.{length, set, drop, replicate}
-use Rattle.controller.specs.declared.decision.Answer.{Answer}
-use Rattle.controller.specs.declared.decision.Answer.the-variants.{Done, Unsound, NotWhole, BadTransfer, Busy, FirstHalf, NoCell, StaleRead, CrossedHalves, CounterOff, BadSize, OutputShort, BadLine, NotWish}
+use Rattle.controller.specs.declared.answers.Answer.{Answer}
+use Rattle.controller.specs.declared.answers.Answer.the-variants.{Done}
 use Rattle.controller.specs.declared.decision.Effect.{Effect}
 use Rattle.controller.specs.declared.decision.Effect.the-variants.{Keep, Store, Blank}
 use Rattle.controller.specs.declared.decision.Decision.{Decision}
 use Rattle.controller.specs.declared.decision.Outcome.{Outcome}
 use Rattle.controller.specs.declared.«record».Record.{Record}
 use Rattle.controller.specs.Record.{withBusy}
-
--- The number of each answer.
-unfoldable pub numberOf : Answer → ℕ
-numberOf Done = 0
-numberOf Unsound = 1
-numberOf NotWhole = 2
-numberOf BadTransfer = 3
-numberOf Busy = 4
-numberOf FirstHalf = 5
-numberOf NoCell = 6
-numberOf StaleRead = 7
-numberOf CrossedHalves = 8
-numberOf CounterOff = 9
-numberOf BadSize = 10
-numberOf OutputShort = 11
-numberOf BadLine = 12
-numberOf NotWish = 13
-
--- The answer is 0.
-abbrev pub isDone : Answer → Bool
-isDone answer = eqb (numberOf answer) 0
-
--- All but 0, 5, 7 and 8 are refusals.
-unfoldable pub isRefusal : Answer → Bool
-isRefusal Done = false
-isRefusal Unsound = true
-isRefusal NotWhole = true
-isRefusal BadTransfer = true
-isRefusal Busy = true
-isRefusal FirstHalf = false
-isRefusal NoCell = true
-isRefusal StaleRead = false
-isRefusal CrossedHalves = false
-isRefusal CounterOff = true
-isRefusal BadSize = true
-isRefusal OutputShort = true
-isRefusal BadLine = true
-isRefusal NotWish = true
 
 -- Display cells 20h, pattern cells untouched.
 unfoldable pub blanked : List ℕ → List ℕ

@@ -8,7 +8,7 @@ use Rattle.controller.specs.declared.cells.Counter.{Counter}
 use Rattle.controller.specs.declared.cells.Counter.the-variants.{Display, Pattern}
 use Rattle.controller.specs.declared.cells.Named.{Named}
 use Rattle.controller.specs.declared.cells.Named.the-variants.{Cell, Outside}
-use Rattle.controller.specs.declared.decision.Answer.the-variants.{Done, NoCell, StaleRead}
+use Rattle.controller.specs.declared.answers.Answer.the-variants.{Done, NoCell, StaleRead}
 use Rattle.controller.specs.declared.decision.Decision.{Decision}
 use Rattle.controller.specs.declared.decision.Effect.the-variants.{Keep, Store, Blank}
 use Rattle.controller.specs.declared.execute.Transfer.{Transfer}
@@ -16,7 +16,7 @@ use Rattle.controller.specs.declared.execute.Transfer.the-variants.{Inst
 use Rattle.controller.specs.declared.instruction.Instruction.{Instruction}
 use Rattle.controller.specs.declared.instruction.Instruction.the-variants.{Nothing, Clear, Home, SetEntry, SetControl, MoveCursor, ShiftDisplay, SetFunction, PatternAddress, DisplayAddress}
 use Rattle.controller.specs.declared.«record».Record.{Record}
-use Rattle.controller.specs.Cells.{byteAt, placeOf, wrapped, stepped, cellOfAdd, cellOfAcg, addressOf}
+use Rattle.controller.specs.Cells.{byteUnder, placeOf, wrapped, stepped, cellOfAdd, cellOfAcg, addressOf}
 use Rattle.controller.specs.Decision.{done, refused}
 use Rattle.controller.specs.Instruction.{decoded}
 use Rattle.controller.specs.Record.{withFunction, withControl, withEntry, withShift, withCounter, withRegister, withBusy}
@@ -33,22 +33,30 @@ longTime = 1640
 abbrev pub changed : Record → Decision
 changed rec = done shortTime Keep rec
 
--- The counter on this cell, and the register loaded from it, fresh.
-abbrev pub loaded : List ℕ → Counter → Record → Record
-loaded mem counter rec = withRegister (byteAt mem counter) true (withCounter counter rec)
+-- The counter placed on this cell, by an instruction.
+abbrev pub placed : Counter → Record → Record
+placed counter rec = withCounter counter rec
 
--- The counter on this cell, and the register stale.
-abbrev pub unloaded : Counter → Record → Record
-unloaded counter rec = withRegister (rec .reg) false (withCounter counter rec)
+-- The counter one cell on, +1 or -1 by I/D, by a data write or a data read.
+abbrev pub movedOn : Record → Record
+movedOn rec = withCounter (stepped (rec .entry .id) (rec .counter)) rec
+
+-- The register loaded from the counter's cell, fresh.
+abbrev pub loaded : List ℕ → Record → Record
+loaded mem rec = withRegister (byteUnder mem (rec .counter)) true rec
+
+-- The register stale.
+abbrev pub unloaded : Record → Record
+unloaded rec = withRegister (rec .reg) false rec
 
 -- Counter cell 0, shift 0, register stale.
 abbrev pub homed : Record → Record
-homed rec = unloaded (Display 0) (withShift 0 rec)
+homed rec = unloaded (placed (Display 0) (withShift 0 rec))
 
 -- A cursor move loads the register, fresh, in display memory; in pattern memory the register turns stale.
 unfoldable pub cursorAt : List ℕ → Counter → Record → Record
-cursorAt mem (Display cell) rec = loaded mem (Display cell) rec
-cursorAt mem (Pattern cell) rec = unloaded (Pattern cell) rec
+cursorAt mem (Display cell) rec = loaded mem (placed (Display cell) rec)
+cursorAt mem (Pattern cell) rec = unloaded (placed (Pattern cell) rec)
 
 -- The shift moved by one, modulo 80.
 abbrev pub shifted : Bool → Record → Record
@@ -56,7 +64,7 @@ shifted up rec = withShift (wrapped 80 up (rec .shift)) rec
 
 -- A display address with a cell loads the register, fresh; one without is refused.
 unfoldable pub addressed : List ℕ → Named → Record → Decision
-addressed mem (Cell cell) rec = changed (loaded mem (Display cell) rec)
+addressed mem (Cell cell) rec = changed (loaded mem (placed (Display cell) rec))
 addressed mem Outside rec = refused NoCell rec
 
 -- What each instruction does.
@@ -69,7 +77,7 @@ executed mem (SetControl control) rec = changed (withControl control rec)
 executed mem (MoveCursor right) rec = changed (cursorAt mem (stepped right (rec .counter)) rec)
 executed mem (ShiftDisplay right) rec = changed (shifted (not right) rec)
 executed mem (SetFunction wide function) rec = changed (withFunction wide function rec)
-executed mem (PatternAddress acg) rec = changed (loaded mem (Pattern (cellOfAcg acg)) rec)
+executed mem (PatternAddress acg) rec = changed (loaded mem (placed (Pattern (cellOfAcg acg)) rec))
 executed mem (DisplayAddress add) rec = addressed mem (cellOfAdd (rec .function .n) add) rec
 
 -- The record with the shift that a data write leaves: in display memory with S=1 it moves, +1 if I/D=1, else -1.
@@ -77,11 +85,10 @@ unfoldable pub carried : Counter → Record → Record
 carried (Display cell) rec = cond (rec .entry .s) (shifted (rec .entry .id) rec) rec
 carried (Pattern cell) rec = rec
 
--- Data write: byte into the counter's cell, register holds the byte, stale; counter +1 or -1 by I/D.
+-- Data write: byte into the counter's cell, register holds the byte, stale; counter +1 or -1 by I/D, and the shift with it.
 unfoldable pub written : ℕ → Record → Decision
 written byte rec =
-    done shortTime (Store (placeOf (rec .counter)) byte)
-    (withRegister byte false (withCounter (stepped (rec .entry .id) (rec .counter)) (carried (rec .counter) rec)))
+    done shortTime (Store (placeOf (rec .counter)) byte) (withRegister byte false (carried (rec .counter) (movedOn rec)))
 
 -- Data read: returns the byte, moves the counter, loads the register from the new cell, fresh; never shifts. A stale one is answered 7.
 unfoldable pub readOut : List ℕ → ℕ → Record → Decision
@@ -89,7 +96,7 @@ readOut mem byte rec =
     record {
       answer = cond (rec .fresh) Done StaleRead;
       byte = byte;
-      rec = withBusy shortTime (loaded mem (stepped (rec .entry .id) (rec .counter)) rec);
+      rec = withBusy shortTime (loaded mem (movedOn rec));
       effect = Keep;
     }
 

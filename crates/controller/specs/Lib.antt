@@ -1,3 +1,4 @@
+pub mod Answers
 pub mod Cells
 pub mod Record
 pub mod Decision
@@ -5,6 +6,7 @@ pub mod Instruction
 pub mod Execute
 pub mod Halves
 pub mod Bus
+pub mod Sent
 pub mod Runs
 pub mod Rows
 pub mod Theorems

@@ -1,6 +1,6 @@
 -- What the controller's record holds and when it is sound (document 01, "The controller's record and memory").
 -- Assumes nothing.
-use mathlib.Core.Bool.{Bool, true, false, not, _&&_}
+use mathlib.Core.Bool.{Bool, true, false, cond, not, _&&_}
 use mathlib.Core.List.{List}
 use mathlib.Core.Path.{_≡_}
 use Prim.Native.Nat.{ℕ, _-_, _<_}
@@ -52,46 +52,138 @@ resetRecord =
 -- The record with this width, N and F, and all else as it was. So with those below: each changes what it names and nothing else.
 abbrev pub withFunction : Bool → Function → Record → Record
 withFunction wide function r =
-    record { wide = wide; function = function; control = r .control; entry = r .entry; shift = r .shift; counter = r .counter; reg = r .reg; fresh = r .fresh; busy = r .busy; half = r .half }
+    record {
+      wide = wide;
+      function = function;
+      control = r .control;
+      entry = r .entry;
+      shift = r .shift;
+      counter = r .counter;
+      reg = r .reg;
+      fresh = r .fresh;
+      busy = r .busy;
+      half = r .half;
+    }
 
 -- With these D, C and B.
 abbrev pub withControl : Control → Record → Record
 withControl control r =
-    record { wide = r .wide; function = r .function; control = control; entry = r .entry; shift = r .shift; counter = r .counter; reg = r .reg; fresh = r .fresh; busy = r .busy; half = r .half }
+    record {
+      wide = r .wide;
+      function = r .function;
+      control = control;
+      entry = r .entry;
+      shift = r .shift;
+      counter = r .counter;
+      reg = r .reg;
+      fresh = r .fresh;
+      busy = r .busy;
+      half = r .half;
+    }
 
 -- With these I/D and S.
 abbrev pub withEntry : Entry → Record → Record
 withEntry entry r =
-    record { wide = r .wide; function = r .function; control = r .control; entry = entry; shift = r .shift; counter = r .counter; reg = r .reg; fresh = r .fresh; busy = r .busy; half = r .half }
+    record {
+      wide = r .wide;
+      function = r .function;
+      control = r .control;
+      entry = entry;
+      shift = r .shift;
+      counter = r .counter;
+      reg = r .reg;
+      fresh = r .fresh;
+      busy = r .busy;
+      half = r .half;
+    }
 
 -- With this shift.
 abbrev pub withShift : ℕ → Record → Record
 withShift shift r =
-    record { wide = r .wide; function = r .function; control = r .control; entry = r .entry; shift = shift; counter = r .counter; reg = r .reg; fresh = r .fresh; busy = r .busy; half = r .half }
+    record {
+      wide = r .wide;
+      function = r .function;
+      control = r .control;
+      entry = r .entry;
+      shift = shift;
+      counter = r .counter;
+      reg = r .reg;
+      fresh = r .fresh;
+      busy = r .busy;
+      half = r .half;
+    }
 
 -- With the counter on this cell.
 abbrev pub withCounter : Counter → Record → Record
 withCounter counter r =
-    record { wide = r .wide; function = r .function; control = r .control; entry = r .entry; shift = r .shift; counter = counter; reg = r .reg; fresh = r .fresh; busy = r .busy; half = r .half }
+    record {
+      wide = r .wide;
+      function = r .function;
+      control = r .control;
+      entry = r .entry;
+      shift = r .shift;
+      counter = counter;
+      reg = r .reg;
+      fresh = r .fresh;
+      busy = r .busy;
+      half = r .half;
+    }
 
 -- With this byte in the data register, fresh or stale.
 abbrev pub withRegister : ℕ → Bool → Record → Record
 withRegister reg fresh r =
-    record { wide = r .wide; function = r .function; control = r .control; entry = r .entry; shift = r .shift; counter = r .counter; reg = reg; fresh = fresh; busy = r .busy; half = r .half }
+    record {
+      wide = r .wide;
+      function = r .function;
+      control = r .control;
+      entry = r .entry;
+      shift = r .shift;
+      counter = r .counter;
+      reg = reg;
+      fresh = fresh;
+      busy = r .busy;
+      half = r .half;
+    }
 
 -- With this busy time left.
 abbrev pub withBusy : ℕ → Record → Record
 withBusy busy r =
-    record { wide = r .wide; function = r .function; control = r .control; entry = r .entry; shift = r .shift; counter = r .counter; reg = r .reg; fresh = r .fresh; busy = busy; half = r .half }
+    record {
+      wide = r .wide;
+      function = r .function;
+      control = r .control;
+      entry = r .entry;
+      shift = r .shift;
+      counter = r .counter;
+      reg = r .reg;
+      fresh = r .fresh;
+      busy = busy;
+      half = r .half;
+    }
 
 -- With this half waiting.
 abbrev pub withHalf : Half → Record → Record
 withHalf half r =
-    record { wide = r .wide; function = r .function; control = r .control; entry = r .entry; shift = r .shift; counter = r .counter; reg = r .reg; fresh = r .fresh; busy = r .busy; half = half }
+    record {
+      wide = r .wide;
+      function = r .function;
+      control = r .control;
+      entry = r .entry;
+      shift = r .shift;
+      counter = r .counter;
+      reg = r .reg;
+      fresh = r .fresh;
+      busy = r .busy;
+      half = half;
+    }
 
--- First the wait comes off busy, not below 0.
-abbrev pub waited : ℕ → Record → Record
-waited wait rec = withBusy (rec .busy - wait) rec
+-- Busy is over.
+abbrev pub busyOver : Record → Record
+busyOver rec = withBusy 0 rec
+
+-- First the wait comes off busy, not below 0: as long as busy or longer, it ends it.
+unfoldable pub waited : ℕ → Record → Record
+waited wait rec = cond (leb (rec .busy) wait) (busyOver rec) (withBusy (rec .busy - wait) rec)
 
 -- A write's half is four bits.
 abbrev pub FourBits : Half → Type 0

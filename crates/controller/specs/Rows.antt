@@ -3,8 +3,6 @@
 -- Assumes nothing.
 use mathlib.Core.Bool.{Bool, true, false, cond, not, _&&_}
 use mathlib.Core.List.{List, [], _∷_}
-use mathlib.Core.Logic.{_⊎_}
-use mathlib.Core.Path.{_≡_}
 use Prim.Native.Nat.{ℕ, _-_}
 use lib.Dec.{leb, eqb}
 use Rattle.controller.specs.declared.cells.Named.{Named}
@@ -14,20 +12,11 @@ use Rattle.controller.specs.declared.execute.Transfer.the-variants.{Inst
 use Rattle.controller.specs.declared.«record».Half.{Half}
 use Rattle.controller.specs.declared.«record».Half.the-variants.{Empty, InstructionWrite, DataWrite, StatusRead, DataRead}
 use Rattle.controller.specs.declared.«record».Record.{Record}
+use Rattle.controller.specs.Answers.{Row}
 use Rattle.controller.specs.Bus.{whole, badTransfer, noHalf, mustWait}
 use Rattle.controller.specs.Cells.{onCell, cellOfAdd}
 use Rattle.controller.specs.Halves.{begun, wholeByte}
 use Rattle.controller.specs.Record.{sound, waited}
-
--- A row of the table: its number, and whether it applies.
-pub record Row : Type 0 where
-  pub number : ℕ
-  pub applies : Bool
-
--- This number is given by these rows: its row applies and none before it does; 0 where none applies.
-unfoldable pub Given : ℕ → List Row → Type 0
-Given n [] = n ≡ 0
-Given n (row ∷ rows) = ((row .applies ≡ true) × (row .number ≡ n)) ⊎ ((row .applies ≡ false) × Given n rows)
 
 -- The half that waits, completed by this byte, passes this test; where none waits none passes.
 unfoldable pub secondIs : (Transfer → Bool) → ℕ → Half → Bool

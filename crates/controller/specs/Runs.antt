@@ -4,19 +4,15 @@ use mathlib.Core.List.{List, [], _∷_}
 use Prim.Native.Nat.{ℕ}
 use Rattle.controller.specs.declared.decision.Decision.{Decision}
 use Rattle.controller.specs.declared.«record».Record.{Record}
+use Rattle.controller.specs.declared.sent.Sent.{Sent}
 use Rattle.controller.specs.Bus.{decided}
-use Rattle.controller.specs.Decision.{numberOf, performed}
+use Rattle.controller.specs.Answers.{numberOf}
+use Rattle.controller.specs.Decision.{performed}
 
 -- A controller: its record and its memory.
 pub record State : Type 0 where
   pub rec : Record
   pub mem : List ℕ
-
--- A transfer as it is sent: kind, byte, and the wait since the one before it.
-pub record Sent : Type 0 where
-  pub kind : ℕ
-  pub byte : ℕ
-  pub wait : ℕ
 
 -- What the sender learns: the answer's number, the byte, and the busy time left.
 pub record Heard : Type 0 where

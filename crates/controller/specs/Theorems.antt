@@ -8,19 +8,20 @@ use Prim.Native.Nat.{ℕ, _+_, _-_, _<_}
 use lib.Dec.{eqb}
 use Rattle.controller.specs.declared.cells.Add.{Add}
 use Rattle.controller.specs.declared.cells.Named.the-variants.{Cell}
-use Rattle.controller.specs.declared.decision.Answer.{Answer}
-use Rattle.controller.specs.declared.decision.Answer.the-variants.{NotWhole}
+use Rattle.controller.specs.declared.answers.Answer.{Answer}
+use Rattle.controller.specs.declared.answers.Answer.the-variants.{NotWhole}
 use Rattle.controller.specs.declared.decision.Decision.{Decision}
 use Rattle.controller.specs.declared.decision.Outcome.{Outcome}
 use Rattle.controller.specs.declared.loan.Told.{Told}
 use Rattle.controller.specs.declared.«record».Half.the-variants.{Empty}
 use Rattle.controller.specs.declared.«record».Record.{Record}
-use Rattle.controller.specs.Bus.{whole, decided, resetDecided, Meets, MeetsIn}
+use Rattle.controller.specs.Bus.{whole, decided, resetDecided, Performs, PerformsIn}
 use Rattle.controller.specs.Cells.{wrapped, lineLength, cellOfAdd, addOfCell}
-use Rattle.controller.specs.Decision.{numberOf, isRefusal, refused, Fits}
+use Rattle.controller.specs.Answers.{numberOf, isRefusal, Given}
+use Rattle.controller.specs.Decision.{refused, Fits}
 use Rattle.controller.specs.Execute.{shortTime, longTime}
 use Rattle.controller.specs.Record.{sound, waited, withHalf}
-use Rattle.controller.specs.Rows.{Given, transferRows, resetRows}
+use Rattle.controller.specs.Rows.{transferRows, resetRows}
 
 -- Wrapping, once over the size: the last cell is followed by the first, and the first preceded by the last.
 abbrev pub Wraps : Type 0
@@ -82,19 +83,19 @@ ResetAnswers = (rec : Record) (mem : List ℕ) (n : ℕ) → (numberOf (resetDec
 abbrev pub OneTransfer : Type 0
 OneTransfer =
     (rec : Record) (mem : List ℕ) (kind byte wait : ℕ) (a b : Outcome) (x y : List ℕ)
-    → Meets (decided rec mem kind byte wait) mem a x → Meets (decided rec mem kind byte wait) mem b y → (a ≡ b) × (x ≡ y)
+    → Performs (decided rec mem kind byte wait) mem a x → Performs (decided rec mem kind byte wait) mem b y → (a ≡ b) × (x ≡ y)
 
 -- No second answer fits a reset.
 abbrev pub OneReset : Type 0
 OneReset =
     (rec : Record) (mem : List ℕ) (a b : Outcome) (x y : List ℕ)
-    → Meets (resetDecided rec mem) mem a x → Meets (resetDecided rec mem) mem b y → (a ≡ b) × (x ≡ y)
+    → Performs (resetDecided rec mem) mem a x → Performs (resetDecided rec mem) mem b y → (a ≡ b) × (x ≡ y)
 
 -- The same of a loan: what is told, the record left in it, and the memory.
 abbrev pub OneTransferIn : Type 0
 OneTransferIn =
     (rec : Record) (mem : List ℕ) (kind byte wait : ℕ) (a b : Told) (u v : Record) (x y : List ℕ)
-    → MeetsIn (decided rec mem kind byte wait) mem a u x → MeetsIn (decided rec mem kind byte wait) mem b v y → (a ≡ b) × (u ≡ v) × (x ≡ y)
+    → PerformsIn (decided rec mem kind byte wait) mem a u x → PerformsIn (decided rec mem kind byte wait) mem b v y → (a ≡ b) × (u ≡ v) × (x ≡ y)
 
 -- No second answer of `is_sound` fits: two values that are both what was promised are one.
 abbrev pub OneSoundness : Type 0

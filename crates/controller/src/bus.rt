@@ -1,10 +1,10 @@
 // The public calls. Each answers every input: the refusals in their order, then what the rules say.
 ghost use mathlib.Core.Bool.{true};
 ghost use mathlib.Core.Path.{_≡_};
-ghost use Rattle.controller.specs.Bus.{Meets, badTransfer, decided, mustWait, noHalf, ordered, resetDecided, whole};
+ghost use Rattle.controller.specs.Bus.{Performs, badTransfer, decided, mustWait, noHalf, ordered, resetDecided, whole};
 ghost use Rattle.controller.specs.Record.{Ready};
+use crate::answers::Answer;
 use crate::cells::on_cell;
-use crate::decision::Answer;
 use crate::decision::Decision;
 use crate::decision::Effect;
 use crate::decision::Outcome;
@@ -102,7 +102,7 @@ fn decide_reset(rec: Record, memory: &[u8]) -> Decision
 // One bus transfer: its kind (0 instruction write, 1 data write, 2 status read, 3 data read), its byte (00h for a
 // read), and the microseconds since the transfer before it.
 pub fn transfer(rec: Record, memory: &mut [u8], kind: u8, byte: u8, wait: u32) -> Outcome
-    ensures { λ r. ⌜ Meets (decided rec (now (memory .entry)) kind byte wait) (now (memory .entry)) r (now (memory .exit)) ⌝ }
+    ensures { λ r. ⌜ Performs (decided rec (now (memory .entry)) kind byte wait) (now (memory .entry)) r (now (memory .exit)) ⌝ }
 {
     let decision = decide(rec, memory, kind, byte, wait);
     let effect = decision.effect;
@@ -112,7 +112,7 @@ pub fn transfer(rec: Record, memory: &mut [u8], kind: u8, byte: u8, wait: u32) -
 
 // Power on. Any record will do, and an unsound one becomes sound.
 pub fn reset(rec: Record, memory: &mut [u8]) -> Outcome
-    ensures { λ r. ⌜ Meets (resetDecided rec (now (memory .entry))) (now (memory .entry)) r (now (memory .exit)) ⌝ }
+    ensures { λ r. ⌜ Performs (resetDecided rec (now (memory .entry))) (now (memory .entry)) r (now (memory .exit)) ⌝ }
 {
     let decision = decide_reset(rec, memory);
     let effect = decision.effect;

@@ -4,7 +4,7 @@ ghost use mathlib.Core.Bool.{true};
 ghost use mathlib.Core.Path.{_≡_};
 ghost use Prim.Native.Nat.{_<_, _≤_};
 ghost use lib.ListN.{length};
-ghost use Rattle.controller.specs.Cells.{acgOfCell, addOfCell, addressOf, addressSet, byteAt, cellOfAcg, cellOfAdd, lineLength, onCell, placeOf, stepped, wrapped};
+ghost use Rattle.controller.specs.Cells.{acgOfCell, addOfCell, addressOf, addressSet, byteUnder, cellOf, cellOfAcg, cellOfAdd, lineLength, onCell, placeOf, stepped, wrapped};
 
 // A display address, as the bus carries it. It is never read as a pattern address.
 pub struct Add(pub u8);
@@ -16,6 +16,16 @@ pub struct Acg(pub u8);
 pub enum Counter {
     Display(u8),
     Pattern(u8),
+}
+
+// The counter's cell, in whichever memory.
+pub fn cell_of(counter: Counter) -> u8
+    ensures { λ r. ⌜ r ≡ cellOf counter ⌝ }
+{
+    match counter {
+        Counter::Display(cell) => cell,
+        Counter::Pattern(cell) => cell,
+    }
 }
 
 // What a display address names: a display cell, or nothing.
@@ -37,7 +47,7 @@ pub fn place(counter: Counter) -> usize
 // The byte in the counter's cell.
 pub fn load(memory: &[u8], counter: Counter) -> u8
     requires { ⌜ (length (now memory) ≡ 144) × (onCell counter ≡ true) ⌝ }
-    ensures { λ r. ⌜ r ≡ byteAt (now (memory .entry)) counter ⌝ }
+    ensures { λ r. ⌜ r ≡ byteUnder (now (memory .entry)) counter ⌝ }
 {
     let at = place(counter);
     memory[at]

@@ -2,26 +2,9 @@
 ghost use mathlib.Core.Path.{_≡_};
 ghost use Prim.Native.Nat.{_≤_};
 ghost use lib.ListN.{length};
-ghost use Rattle.controller.specs.Decision.{Fits, blanked, done, isDone, numberOf, outcomeOf, performed, refused};
+ghost use Rattle.controller.specs.Decision.{Fits, blanked, done, outcomeOf, performed, refused};
+use crate::answers::Answer;
 use crate::record::Record;
-
-// A name for each row of the table "What each number says".
-pub enum Answer {
-    Done,
-    Unsound,
-    NotWhole,
-    BadTransfer,
-    Busy,
-    FirstHalf,
-    NoCell,
-    StaleRead,
-    CrossedHalves,
-    CounterOff,
-    BadSize,
-    OutputShort,
-    BadLine,
-    NotWish,
-}
 
 // All that can happen to the memory: nothing, one byte stored at a place, or the display cells blanked to 20h.
 pub enum Effect {
@@ -43,35 +26,6 @@ pub struct Outcome {
     pub answer: Answer,
     pub byte: u8,
     pub rec: Record,
-}
-
-// The number of an answer in the table.
-pub fn number(answer: Answer) -> u8
-    ensures { λ r. ⌜ r ≡ numberOf answer ⌝ }
-{
-    match answer {
-        Answer::Done => 0,
-        Answer::Unsound => 1,
-        Answer::NotWhole => 2,
-        Answer::BadTransfer => 3,
-        Answer::Busy => 4,
-        Answer::FirstHalf => 5,
-        Answer::NoCell => 6,
-        Answer::StaleRead => 7,
-        Answer::CrossedHalves => 8,
-        Answer::CounterOff => 9,
-        Answer::BadSize => 10,
-        Answer::OutputShort => 11,
-        Answer::BadLine => 12,
-        Answer::NotWish => 13,
-    }
-}
-
-// Whether the answer is 0.
-pub fn is_done(answer: Answer) -> bool
-    ensures { λ r. ⌜ r ≡ isDone answer ⌝ }
-{
-    number(answer) == 0
 }
 
 pub fn refuse(answer: Answer, rec: Record) -> Decision

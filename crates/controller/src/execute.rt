@@ -4,8 +4,9 @@ ghost use mathlib.Core.Path.{_≡_};
 ghost use Prim.Native.Nat.{_<_};
 ghost use lib.ListN.{length};
 ghost use Rattle.controller.specs.Cells.{Within, onCell};
-ghost use Rattle.controller.specs.Execute.{addressed, carried, changed, completed, cursorAt, executed, homed, loaded, longTime, readOut, shifted, shortTime, statusOf, unloaded, written};
-ghost use Rattle.controller.specs.Record.{Ready, withControl, withCounter, withEntry, withFunction};
+ghost use Rattle.controller.specs.Execute.{addressed, carried, changed, completed, cursorAt, executed, homed, loaded, longTime, movedOn, placed, readOut, shifted, shortTime, statusOf, unloaded, written};
+ghost use Rattle.controller.specs.Record.{Ready, withControl, withEntry, withFunction};
+use crate::answers::Answer;
 use crate::cells::Counter;
 use crate::cells::Named;
 use crate::cells::address;
@@ -15,7 +16,6 @@ use crate::cells::load;
 use crate::cells::place;
 use crate::cells::step;
 use crate::cells::wrap;
-use crate::decision::Answer;
 use crate::decision::Decision;
 use crate::decision::Effect;
 use crate::decision::finish;
@@ -48,24 +48,45 @@ pub fn long_time() -> u32
     1_640
 }
 
-// The counter on this cell and the register loaded from it, fresh.
-fn load_at(memory: &[u8], counter: Counter, rec: Record) -> Record
-    requires { ⌜ (length (now memory) ≡ 144) × (onCell counter ≡ true) ⌝ }
-    ensures { λ r. ⌜ r ≡ loaded (now (memory .entry)) counter rec ⌝ }
+// The counter placed on this cell.
+fn place_on(counter: Counter, rec: Record) -> Record
+    ensures { λ r. ⌜ r ≡ placed counter rec ⌝ }
 {
+    Record { counter, ..rec }
+}
+
+// The counter one cell on, as I/D says.
+fn move_on(rec: Record) -> Record
+    requires { ⌜ onCell (rec .counter) ≡ true ⌝ }
+    ensures { λ r. ⌜ r ≡ movedOn rec ⌝ }
+{
+    let counter = rec.counter;
+    let next = step(rec.entry.id, counter);
+    Record {
+        counter: next,
+        ..rec
+    }
+}
+
+// The register loaded from the counter's cell, fresh.
+fn load_register(memory: &[u8], rec: Record) -> Record
+    requires { ⌜ (length (now memory) ≡ 144) × (onCell (rec .counter) ≡ true) ⌝ }
+    ensures { λ r. ⌜ r ≡ loaded (now (memory .entry)) rec ⌝ }
+{
+    let counter = rec.counter;
     let mut next = rec;
     next.reg = load(memory, counter);
     next.fresh = true;
-    Record { counter, ..next }
+    next
 }
 
-// The counter on this cell and the register stale.
-fn unload_at(counter: Counter, rec: Record) -> Record
-    ensures { λ r. ⌜ r ≡ unloaded counter rec ⌝ }
+// The register stale.
+fn unload_register(rec: Record) -> Record
+    ensures { λ r. ⌜ r ≡ unloaded rec ⌝ }
 {
     let mut next = rec;
     next.fresh = false;
-    Record { counter, ..next }
+    next
 }
 
 fn home(rec: Record) -> Record
@@ -73,13 +94,7 @@ fn home(rec: Record) -> Record
 {
     let mut next = rec;
     next.shift = 0;
-    unload_at(Counter::Display(0), next)
-}
-
-fn move_to(counter: Counter, rec: Record) -> Record
-    ensures { λ r. ⌜ r ≡ withCounter counter rec ⌝ }
-{
-    Record { counter, ..rec }
+    unload_register(place_on(Counter::Display(0), next))
 }
 
 // In display memory a cursor move loads the register; in pattern memory it leaves it stale.
@@ -88,8 +103,8 @@ fn cursor_to(memory: &[u8], counter: Counter, rec: Record) -> Record
     ensures { λ r. ⌜ r ≡ cursorAt (now (memory .entry)) counter rec ⌝ }
 {
     match counter {
-        Counter::Display(_) => load_at(memory, counter, rec),
-        Counter::Pattern(_) => unload_at(counter, rec),
+        Counter::Display(_) => load_register(memory, place_on(counter, rec)),
+        Counter::Pattern(_) => unload_register(place_on(counter, rec)),
     }
 }
 
@@ -140,7 +155,7 @@ fn go_to(memory: &[u8], named: Named, rec: Record) -> Decision
     ensures { λ r. ⌜ r ≡ addressed (now (memory .entry)) named rec ⌝ }
 {
     match named {
-        Named::Cell(cell) => change(load_at(memory, Counter::Display(cell), rec)),
+        Named::Cell(cell) => change(load_register(memory, place_on(Counter::Display(cell), rec))),
         Named::Outside => refuse(Answer::NoCell, rec),
     }
 }
@@ -159,10 +174,9 @@ fn execute(memory: &[u8], instruction: Instruction, rec: Record) -> Decision
         Instruction::MoveCursor(right) => change(cursor_to(memory, step(right, counter), rec)),
         Instruction::ShiftDisplay(right) => change(shift(!right, rec)),
         Instruction::SetFunction(wide, function) => change(set_function(wide, function, rec)),
-        Instruction::PatternAddress(acg) => change(load_at(
+        Instruction::PatternAddress(acg) => change(load_register(
             memory,
-            Counter::Pattern(cell_of_acg(acg)),
-            rec,
+            place_on(Counter::Pattern(cell_of_acg(acg)), rec),
         )),
         Instruction::DisplayAddress(add) => go_to(memory, cell_of_add(rec.function.n, add), rec),
     }
@@ -190,14 +204,10 @@ fn write(byte: u8, rec: Record) -> Decision
     ensures { λ r. ⌜ r ≡ written byte rec ⌝ }
 {
     let counter = rec.counter;
-    let mut next = carry(counter, rec);
+    let mut next = carry(counter, move_on(rec));
     next.reg = byte;
     next.fresh = false;
-    finish(
-        short_time(),
-        Effect::Store(place(counter), byte),
-        move_to(step(rec.entry.id, counter), next),
-    )
+    finish(short_time(), Effect::Store(place(counter), byte), next)
 }
 
 fn read_answer(fresh: bool) -> Answer
@@ -214,8 +224,7 @@ fn read(memory: &[u8], byte: u8, rec: Record) -> Decision
     requires { ⌜ Ready rec (now memory) ⌝ }
     ensures { λ r. ⌜ r ≡ readOut (now (memory .entry)) byte rec ⌝ }
 {
-    let counter = rec.counter;
-    let mut next = load_at(memory, step(rec.entry.id, counter), rec);
+    let mut next = load_register(memory, move_on(rec));
     next.busy = short_time();
     Decision {
         answer: read_answer(rec.fresh),

@@ -4,10 +4,10 @@ ghost use mathlib.Core.Path.{_≡_};
 ghost use Rattle.controller.specs.Cells.{onCell};
 ghost use Rattle.controller.specs.Halves.{accepted, begun, crossed, ended, firstHalf, firstTold, narrow, secondHalf};
 ghost use Rattle.controller.specs.Record.{FourBits, Ready};
-use crate::decision::Answer;
+use crate::answers::Answer;
+use crate::answers::is_done;
 use crate::decision::Decision;
 use crate::decision::Effect;
-use crate::decision::is_done;
 use crate::execute::Transfer;
 use crate::execute::complete;
 use crate::execute::status;
@@ -57,10 +57,10 @@ fn first_half(transfer: Transfer, rec: Record) -> Decision
 }
 
 // A second half of another kind turns answer 0 into 8; 6 and 7 stay.
-fn cross(same: bool, answer: Answer) -> Answer
-    ensures { λ r. ⌜ r ≡ crossed same answer ⌝ }
+fn cross(other: bool, answer: Answer) -> Answer
+    ensures { λ r. ⌜ r ≡ crossed other answer ⌝ }
 {
-    if same {
+    if !other {
         return answer;
     }
     if is_done(answer) {
@@ -70,14 +70,14 @@ fn cross(same: bool, answer: Answer) -> Answer
 }
 
 // The second half returns the low half in bits 7 to 4.
-fn end(same: bool, decision: Decision) -> Decision
-    ensures { λ r. ⌜ r ≡ ended same decision ⌝ }
+fn end(other: bool, decision: Decision) -> Decision
+    ensures { λ r. ⌜ r ≡ ended other decision ⌝ }
 {
     let answer = decision.answer;
     let rec = decision.rec;
     let effect = decision.effect;
     Decision {
-        answer: cross(same, answer),
+        answer: cross(other, answer),
         byte: decision.byte % 16 * 16,
         rec,
         effect,
@@ -85,12 +85,12 @@ fn end(same: bool, decision: Decision) -> Decision
 }
 
 // The second half completes what the first one began.
-fn second_half(memory: &[u8], same: bool, transfer: Transfer, rec: Record) -> Decision
+fn second_half(memory: &[u8], other: bool, transfer: Transfer, rec: Record) -> Decision
     requires { ⌜ Ready rec (now memory) ⌝ }
-    ensures { λ r. ⌜ r ≡ secondHalf (now (memory .entry)) same transfer rec ⌝ }
+    ensures { λ r. ⌜ r ≡ secondHalf (now (memory .entry)) other transfer rec ⌝ }
 {
     end(
-        same,
+        other,
         complete(memory, transfer, with_half(Half::Empty, rec)),
     )
 }
@@ -105,22 +105,22 @@ fn accept_narrow(memory: &[u8], kind: u8, byte: u8, half: Half, rec: Record) -> 
         Half::Empty => first_half(begin(kind, byte, rec), rec),
         Half::InstructionWrite(high) => second_half(
             memory,
-            kind == 0,
+            kind != 0,
             Transfer::Instruct(high * 16 + low),
             rec,
         ),
         Half::DataWrite(high) => second_half(
             memory,
-            kind == 1,
+            kind != 1,
             Transfer::Write(high * 16 + low),
             rec,
         ),
-        Half::StatusRead(taken) => second_half(memory, kind == 2, Transfer::Status(taken), rec),
-        Half::DataRead(taken) => second_half(memory, kind == 3, Transfer::Read(taken), rec),
+        Half::StatusRead(taken) => second_half(memory, kind != 2, Transfer::Status(taken), rec),
+        Half::DataRead(taken) => second_half(memory, kind != 3, Transfer::Read(taken), rec),
     }
 }
 
-// Width 8: the transfer is complete at once.
+// Width 8: the transfer is complete at once. Width 4: it is taken as a half.
 pub fn accept(memory: &[u8], kind: u8, byte: u8, rec: Record) -> Decision
     requires { ⌜ Ready rec (now memory) ⌝ }
     ensures { λ r. ⌜ r ≡ accepted (now (memory .entry)) kind byte rec ⌝ }

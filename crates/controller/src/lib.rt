@@ -2,6 +2,7 @@
 // the controller's record and its memory come out. Document 01, "The controller's record and memory" and "One transfer".
 //
 // Every transfer is decided first, by functions that change nothing, and then performed: `decision` has the parts.
+mod answers;
 mod bus;
 mod cells;
 mod decision;
@@ -10,7 +11,12 @@ mod halves;
 mod instruction;
 mod loan;
 mod record;
+mod sent;
 
+pub use answers::Answer;
+pub use answers::is_done;
+pub use answers::is_refusal;
+pub use answers::number;
 pub use bus::is_bad;
 pub use bus::is_whole;
 pub use bus::reset;
@@ -19,11 +25,9 @@ pub use cells::Acg;
 pub use cells::Add;
 pub use cells::Counter;
 pub use cells::address_set;
+pub use cells::cell_of;
 pub use cells::line_length;
-pub use decision::Answer;
 pub use decision::Outcome;
-pub use decision::is_done;
-pub use decision::number;
 pub use execute::long_time;
 pub use execute::short_time;
 pub use loan::Told;
@@ -33,4 +37,9 @@ pub use record::Entry;
 pub use record::Function;
 pub use record::Half;
 pub use record::Record;
+pub use record::after_reset;
 pub use record::is_sound;
+pub use sent::Sent;
+pub use sent::little_endian;
+pub use sent::number_from;
+pub use sent::six_bytes;

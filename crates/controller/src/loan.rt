@@ -1,8 +1,8 @@
 // The same transfer on a record that is lent, for a caller who keeps the record in a place of its own.
 ghost use mathlib.Core.Path.{_≡_};
-ghost use Rattle.controller.specs.Bus.{MeetsIn, decided};
+ghost use Rattle.controller.specs.Bus.{PerformsIn, decided};
+use crate::answers::Answer;
 use crate::bus::transfer;
-use crate::decision::Answer;
 use crate::record::Record;
 
 // What the caller of the loan is told.
@@ -13,7 +13,7 @@ pub struct Told {
 
 // One bus transfer on a record that is lent: the new record is left in the loan.
 pub fn transfer_in(rec: &mut Record, memory: &mut [u8], kind: u8, byte: u8, wait: u32) -> Told
-    ensures { λ r. ⌜ MeetsIn (decided (now (rec .entry)) (now (memory .entry)) kind byte wait) (now (memory .entry)) r (now (rec .exit)) (now (memory .exit)) ⌝ }
+    ensures { λ r. ⌜ PerformsIn (decided (now (rec .entry)) (now (memory .entry)) kind byte wait) (now (memory .entry)) r (now (rec .exit)) (now (memory .exit)) ⌝ }
 {
     let outcome = transfer(*rec, memory, kind, byte, wait);
     *rec = outcome.rec;

@@ -1,6 +1,6 @@
 // The controller's record: all that it keeps beside the memory.
 ghost use mathlib.Core.Path.{_≡_};
-ghost use Rattle.controller.specs.Record.{halfSound, resetRecord, resetTime, sound, waited, withHalf};
+ghost use Rattle.controller.specs.Record.{busyOver, halfSound, resetRecord, resetTime, sound, waited, withHalf};
 use crate::cells::Counter;
 
 // What Function Set sets, beside the width: N, two lines, and F, tall letters.
@@ -96,16 +96,24 @@ pub fn after_reset() -> Record
     }
 }
 
+// The record with busy over.
+fn busy_over(rec: Record) -> Record
+    ensures { λ r. ⌜ r ≡ busyOver rec ⌝ }
+{
+    let mut next = rec;
+    next.busy = 0;
+    next
+}
+
 // The wait comes off busy, not below 0.
 pub fn after_wait(wait: u32, rec: Record) -> Record
     ensures { λ r. ⌜ r ≡ waited wait rec ⌝ }
 {
-    let mut next = rec;
-    if wait < rec.busy {
-        next.busy = rec.busy - wait;
-        return next;
+    if rec.busy <= wait {
+        return busy_over(rec);
     }
-    next.busy = 0;
+    let mut next = rec;
+    next.busy = rec.busy - wait;
     next
 }
 

@@ -10,21 +10,21 @@ use native.Mathlib.Omega.{arith}
 use borrow.Author.Tests.{ltb-true, ltb-false, lt-ltb, ne-eqb}
 use lib.Dec.{ltb, eqb}
 use lib.ListN.{length, replicate}
-use Rattle.controller.specs.declared.decision.Answer.{Answer}
-use Rattle.controller.specs.declared.decision.Answer.the-variants.{Done, Unsound, NotWhole, BadSize, OutputShort}
+use Rattle.controller.specs.declared.answers.Answer.{Answer}
+use Rattle.controller.specs.declared.answers.Answer.the-variants.{Done, Unsound, NotWhole, BadSize, OutputShort}
 use Rattle.controller.specs.declared.«record».Record.{Record}
 use Rattle.controller.specs.Bus.{whole}
 use Rattle.controller.specs.Cells.{lineLength}
-use Rattle.controller.specs.Decision.{isRefusal, numberOf}
+use Rattle.controller.specs.Answers.{isRefusal, numberOf}
 use Rattle.controller.specs.Record.{sound}
 use Rattle.controller.proofs.Laws.Choice.{and-left, and-right}
-use Rattle.controller.proofs.Laws.Rows.{first, given}
-use Rattle.glass.specs.declared.geometry.Shown.the-variants.{Cell, Undriven}
-use Rattle.glass.specs.Geometry.{cellIn, drivenLines, fitsGlass, height}
-use Rattle.glass.proofs.Answers.{glass-columns}
-use Rattle.glass.proofs.Logic.{of-either}
-use Rattle.glass.proofs.Places.{column-of-place, row-of-place}
-use Rattle.glass.proofs.Theorems.{each-byte}
+use Rattle.controller.proofs.Laws.Answers.{first, given}
+use Rattle.dots.specs.declared.geometry.Shown.the-variants.{Cell, Undriven}
+use Rattle.dots.specs.Geometry.{cellIn, drivenLines, fitsGlass, height}
+use Rattle.dots.proofs.Answers.{glass-columns}
+use Rattle.dots.proofs.Logic.{of-either}
+use Rattle.dots.proofs.Places.{column-of-place, row-of-place}
+use Rattle.dots.proofs.Theorems.{each-byte}
 use Rattle.lines.specs.declared.writer.Written.{Written}
 use Rattle.drawing.specs.declared.drawing.Form.{Form}
 use Rattle.drawing.specs.declared.grid.Size.{Size}
@@ -125,7 +125,7 @@ on-glass rec columns lines cell shifted here fits =
 
 -- The answer's number is that of the first row that applies.
 answer-first : (form : Form) (rec : Record) (mem : List ℕ) (columns lines room : ℕ) → numberOf (answering form rec mem columns lines room) ≡ first (drawRows form rec mem columns lines room)
-unfolding answering numberOf first drawRows
+unfolding answering first drawRows
 answer-first form rec mem columns lines room = simp (of-either numberOf)
 
 pub draw-answers : DrawAnswers

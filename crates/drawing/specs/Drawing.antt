@@ -6,14 +6,14 @@ use mathlib.Core.Path.{_≡_}
 use Prim.Native.Nat.{ℕ, _+_, _-_, _*_, _/_, _%_}
 use lib.Dec.{ltb}
 use lib.ListN.{length, getD, replicate}
-use Rattle.controller.specs.declared.decision.Answer.{Answer}
-use Rattle.controller.specs.declared.decision.Answer.the-variants.{Done, Unsound, NotWhole, BadSize, OutputShort}
+use Rattle.controller.specs.declared.answers.Answer.{Answer}
+use Rattle.controller.specs.declared.answers.Answer.the-variants.{Done, Unsound, NotWhole, BadSize, OutputShort}
 use Rattle.controller.specs.declared.«record».Record.{Record}
 use Rattle.controller.specs.Bus.{whole}
-use Rattle.controller.specs.Decision.{numberOf, isRefusal}
+use Rattle.controller.specs.Answers.{numberOf, isRefusal}
 use Rattle.controller.specs.Record.{sound}
-use Rattle.glass.specs.Geometry.{fitsGlass, height}
-use Rattle.glass.specs.Picture.{output, painted}
+use Rattle.dots.specs.Geometry.{fitsGlass, height}
+use Rattle.dots.specs.Picture.{output, painted}
 use Rattle.lines.specs.declared.writer.Written.{Written}
 use Rattle.drawing.specs.declared.drawing.Form.{Form}
 use Rattle.drawing.specs.declared.drawing.Form.the-variants.{Text, Bitmap, Cells}
@@ -69,10 +69,10 @@ unfoldable pub cellsByte : List ℕ → Record → Size → ℕ → ℕ
 cellsByte mem rec size place = cond (ltb place legendLength) (getD legend place 0) (listingByte mem rec size (place - legendLength))
 
 -- The byte at a place of a drawing.
-unfoldable pub byteAt : Form → List ℕ → List ℕ → Record → Size → ℕ → ℕ
-byteAt Text dots mem rec size place = textByte dots rec size place
-byteAt Bitmap dots mem rec size place = bitmapByte dots size place
-byteAt Cells dots mem rec size place = cellsByte mem rec size place
+unfoldable pub drawnByte : Form → List ℕ → List ℕ → Record → Size → ℕ → ℕ
+drawnByte Text dots mem rec size place = textByte dots rec size place
+drawnByte Bitmap dots mem rec size place = bitmapByte dots size place
+drawnByte Cells dots mem rec size place = cellsByte mem rec size place
 
 -- The panel's size.
 abbrev pub sizeFor : Record → ℕ → ℕ → Size
@@ -100,8 +100,8 @@ abbrev pub telling : Answer → ℕ → Written
 telling answer long = record { answer = answer; length = cond (isRefusal answer) 0 long }
 
 -- The output left behind: as found on a refusal, else the drawing, later bytes as found.
-abbrev pub leaving : Answer → (ℕ → ℕ) → ℕ → List ℕ → List ℕ
-leaving answer byte long out = cond (isRefusal answer) out (painted byte 0 long out)
+abbrev pub outputLeft : Answer → (ℕ → ℕ) → ℕ → List ℕ → List ℕ
+outputLeft answer byte long out = cond (isRefusal answer) out (painted byte 0 long out)
 
 -- What `draw` promises: what is told, its number in the table, and every byte of the output.
 pub record Drawn (form : Form) (rec : Record) (mem : List ℕ) (columns lines : ℕ) (lit : Bool) (before : List ℕ) (returned : Written) (after : List ℕ) : Type 0 where
@@ -109,14 +109,14 @@ pub record Drawn (form : Form) (rec : Record) (mem : List ℕ) (columns lines : 
   pub number : numberOf (returned .answer) ≡ numberOf (answering form rec mem columns lines (length before))
   pub out :
       after
-      ≡ leaving (answering form rec mem columns lines (length before))
-      (byteAt form (dotsOf rec mem columns lines lit) mem rec (sizeFor rec columns lines)) (lengthOf form (sizeFor rec columns lines)) before
+      ≡ outputLeft (answering form rec mem columns lines (length before))
+      (drawnByte form (dotsOf rec mem columns lines lit) mem rec (sizeFor rec columns lines)) (lengthOf form (sizeFor rec columns lines)) before
 
 -- Of a picture that was taken 11 is left to be given.
 abbrev pub roomAnswer : Form → Size → ℕ → Answer
 roomAnswer form size room = cond (ltb room (lengthOf form size)) OutputShort Done
 
 -- What is promised of drawing a picture that was taken: what is told, and every byte of the output.
-pub record Taken (form : Form) (dots mem : List ℕ) (rec : Record) (size : Size) (before : List ℕ) (returned : Written) (after : List ℕ) : Type 0 where
+pub record DrawnTaken (form : Form) (dots mem : List ℕ) (rec : Record) (size : Size) (before : List ℕ) (returned : Written) (after : List ℕ) : Type 0 where
   pub told : returned ≡ telling (roomAnswer form size (length before)) (lengthOf form size)
-  pub out : after ≡ leaving (roomAnswer form size (length before)) (byteAt form dots mem rec size) (lengthOf form size) before
+  pub out : after ≡ outputLeft (roomAnswer form size (length before)) (drawnByte form dots mem rec size) (lengthOf form size) before

@@ -48,15 +48,15 @@ cellChar spare byte at =
     (digit (byte % 16))))
 
 -- The same of the cell at this place of the memory.
-unfoldable pub cellAt : List ℕ → Bool → ℕ → Size → ℕ → ℕ → ℕ
-cellAt mem n shift size place at = cellChar (isSpare n shift size place) (getD mem place 0) at
+unfoldable pub cellField : List ℕ → Bool → ℕ → Size → ℕ → ℕ → ℕ
+cellField mem n shift size place at = cellChar (isSpare n shift size place) (getD mem place 0) at
 
 -- The byte of the listing at a column of a line: ten bytes of label, sixteen cells of four bytes, and a newline.
 unfoldable pub listingAt : List ℕ → Bool → ℕ → Size → ℕ → ℕ → ℕ
 listingAt mem n shift size x line =
     cond (eqb x 74) newline
     (cond (ltb x 10) (getD (labelFor line) x 0)
-    (cellAt mem n shift size (line * 16 + (x - 10) / 4) ((x - 10) % 4)))
+    (cellField mem n shift size (line * 16 + (x - 10) / 4) ((x - 10) % 4)))
 
 -- A line of the listing: ten bytes of label, sixteen cells of four bytes, and a newline.
 abbrev pub listingWidth : ℕ

@@ -7,16 +7,15 @@ use mathlib.Core.Path.{_≡_}
 use Prim.Native.Nat.{ℕ, _+_, _*_, _≤_, _<_}
 use lib.Dec.{ltb}
 use lib.ListN.{length}
-use Rattle.controller.specs.declared.decision.Answer.the-variants.{Done}
+use Rattle.controller.specs.declared.answers.Answer.the-variants.{Done}
 use Rattle.controller.specs.declared.«record».Record.{Record}
 use Rattle.controller.specs.Bus.{whole}
-use Rattle.controller.specs.Decision.{isRefusal, numberOf}
+use Rattle.controller.specs.Answers.{isRefusal, numberOf, Row, Given}
 use Rattle.controller.specs.Record.{sound}
-use Rattle.controller.specs.Rows.{Row, Given}
-use Rattle.glass.specs.declared.geometry.Shown.the-variants.{Cell}
-use Rattle.glass.specs.Font.{font}
-use Rattle.glass.specs.Geometry.{cellAt, fitsGlass, height}
-use Rattle.glass.specs.Picture.{answered, dotsAt}
+use Rattle.dots.specs.declared.geometry.Shown.the-variants.{Cell}
+use Rattle.dots.specs.Font.{font}
+use Rattle.dots.specs.Geometry.{cellAt, fitsGlass, height}
+use Rattle.dots.specs.Picture.{answered, dotsAt}
 use Rattle.lines.specs.declared.writer.Written.{Written}
 use Rattle.drawing.specs.declared.drawing.Form.{Form}
 use Rattle.drawing.specs.Grid.{dotOf, isLit}

@@ -4,8 +4,8 @@ ghost use mathlib.Core.Path.{_≡_};
 ghost use Prim.Native.Nat.{_≤_, _<_};
 ghost use lib.ListN.{length};
 ghost use Rattle.controller.specs.Record.{sound};
-ghost use Rattle.glass.specs.Picture.{painted};
-ghost use Rattle.drawing.specs.Drawing.{Drawn, bitmapByte, bitmapLength, Taken, byteAt, cellsByte, frameLength, frameWidth, headByte, lengthOf, listingByte, textByte};
+ghost use Rattle.dots.specs.Picture.{painted};
+ghost use Rattle.drawing.specs.Drawing.{Drawn, bitmapByte, bitmapLength, DrawnTaken, drawnByte, cellsByte, frameLength, frameWidth, headByte, lengthOf, listingByte, textByte};
 ghost use Rattle.drawing.specs.Grid.{Small};
 use crate::bitmap::bitmap_head;
 use crate::bitmap::pixels_at;
@@ -20,8 +20,8 @@ use crate::state::state_byte;
 use controller::Answer;
 use controller::Record;
 use controller::is_done;
-use glass::picture;
-use glass::rows_of;
+use dots::picture;
+use dots::rows_of;
 use lines::Written;
 
 // The length of the bitmap's head.
@@ -145,9 +145,9 @@ fn cells_byte(memory: &[u8], rec: Record, size: Size, place: usize) -> u8
     listing_byte(memory, rec, size, place - LEGEND)
 }
 
-fn byte_at(form: Form, dots: &[u8], memory: &[u8], rec: Record, size: Size, place: usize) -> u8
+fn drawn_byte(form: Form, dots: &[u8], memory: &[u8], rec: Record, size: Size, place: usize) -> u8
     requires { ⌜ (Small size) × (rec .shift < 80) × (place < lengthOf form size) ⌝ }
-    ensures { λ r. ⌜ r ≡ byteAt form (now (dots .entry)) (now (memory .entry)) rec size place ⌝ }
+    ensures { λ r. ⌜ r ≡ drawnByte form (now (dots .entry)) (now (memory .entry)) rec size place ⌝ }
 {
     match form {
         Form::Text => text_byte(dots, rec, size, place),
@@ -167,11 +167,11 @@ fn fill(
     out: &mut [u8],
 )
     requires { ⌜ (Small size) × (rec .shift < 80) × (count ≡ lengthOf form size) × (count ≤ length (now out)) ⌝ }
-    ensures { λ _. ⌜ now (out .exit) ≡ painted (byteAt form (now (dots .entry)) (now (memory .entry)) rec size) 0 count (now (out .entry)) ⌝ }
+    ensures { λ _. ⌜ now (out .exit) ≡ painted (drawnByte form (now (dots .entry)) (now (memory .entry)) rec size) 0 count (now (out .entry)) ⌝ }
 {
     let mut place = 0;
     while place < count {
-        out[place] = byte_at(form, dots, memory, rec, size, place);
+        out[place] = drawn_byte(form, dots, memory, rec, size, place);
         place += 1;
     }
 }
@@ -192,7 +192,7 @@ fn draw_taken(
     out: &mut [u8],
 ) -> Written
     requires { ⌜ (Small size) × (rec .shift < 80) ⌝ }
-    ensures { λ r. ⌜ Taken form (now (dots .entry)) (now (memory .entry)) rec size (now (out .entry)) r (now (out .exit)) ⌝ }
+    ensures { λ r. ⌜ DrawnTaken form (now (dots .entry)) (now (memory .entry)) rec size (now (out .entry)) r (now (out .exit)) ⌝ }
 {
     let length = length_of(form, size);
     if out.len() < length {

@@ -3,7 +3,7 @@
 ghost use mathlib.Core.Path.{_≡_};
 ghost use Prim.Native.Nat.{_≤_, _<_};
 ghost use lib.ListN.{getD};
-ghost use Rattle.drawing.specs.Listing.{cellAt, cellChar, displayLabel, isOnGlass, isSpare, isWithin, labelFor, legend, listingAt, markFor, patternLabel};
+ghost use Rattle.drawing.specs.Listing.{cellField, cellChar, displayLabel, isOnGlass, isSpare, isWithin, labelFor, legend, listingAt, markFor, patternLabel};
 use crate::grid::Size;
 use crate::grid::byte_in;
 use crate::numbers::digit_for;
@@ -110,9 +110,9 @@ fn cell_char(spare: bool, byte: u8, at: usize) -> u8
 }
 
 // A byte of a cell's four.
-fn cell_at(memory: &[u8], n: bool, shift: usize, size: Size, place: usize, at: usize) -> u8
+fn cell_field(memory: &[u8], n: bool, shift: usize, size: Size, place: usize, at: usize) -> u8
     requires { ⌜ shift < 80 ⌝ }
-    ensures { λ r. ⌜ r ≡ cellAt (now (memory .entry)) n shift size place at ⌝ }
+    ensures { λ r. ⌜ r ≡ cellField (now (memory .entry)) n shift size place at ⌝ }
 {
     cell_char(is_spare(n, shift, size, place), byte_in(memory, place), at)
 }
@@ -129,7 +129,7 @@ pub fn listing_at(memory: &[u8], n: bool, shift: usize, size: Size, x: usize, li
         let label = label_for(line);
         return label[x];
     }
-    cell_at(
+    cell_field(
         memory,
         n,
         shift,

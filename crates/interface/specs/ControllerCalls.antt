@@ -4,12 +4,13 @@ use mathlib.Core.Bool.{cond, not}
 use mathlib.Core.List.{List}
 use mathlib.Core.Path.{_≡_}
 use Prim.Native.Nat.{ℕ, _+_, _*_}
-use Rattle.controller.specs.declared.decision.Answer.{Answer}
-use Rattle.controller.specs.declared.decision.Answer.the-variants.{Unsound, NotWhole}
+use Rattle.controller.specs.declared.answers.Answer.{Answer}
+use Rattle.controller.specs.declared.answers.Answer.the-variants.{Unsound, NotWhole}
 use Rattle.controller.specs.declared.decision.Decision.{Decision}
 use Rattle.controller.specs.declared.decision.Outcome.{Outcome}
 use Rattle.controller.specs.Bus.{decided, resetDecided, whole}
-use Rattle.controller.specs.Decision.{numberOf, performed}
+use Rattle.controller.specs.Answers.{numberOf}
+use Rattle.controller.specs.Decision.{performed}
 use Rattle.interface.specs.declared.record_bytes.ReadRecord.{ReadRecord}
 use Rattle.interface.specs.declared.record_bytes.ReadRecord.the-variants.{Is, Broken}
 use Rattle.interface.specs.RecordBytes.{recordBytes, recordFrom, isRecordLong, recordIn}
@@ -50,7 +51,7 @@ pub record Left (outcome : Outcome) (returned : ℕ) (bytes : List ℕ) : Type 0
   pub rec : bytes ≡ recordBytes (outcome .rec)
 
 -- What a call promises: the number returned, and every byte of the record and of the memory.
-pub record Meets (call : Call) (returned : ℕ) (bytes mem : List ℕ) : Type 0 where
+pub record Leaves (call : Call) (returned : ℕ) (bytes mem : List ℕ) : Type 0 where
   pub told : returned ≡ call .returned
   pub rec : bytes ≡ call .rec
   pub memory : mem ≡ call .memory

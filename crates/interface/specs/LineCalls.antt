@@ -5,13 +5,13 @@ use mathlib.Core.List.{List}
 use Prim.Native.Nat.{ℕ, _+_, _*_}
 use lib.Dec.{ltb}
 use lib.ListN.{length}
-use Rattle.controller.specs.declared.decision.Answer.{Answer}
-use Rattle.controller.specs.declared.decision.Answer.the-variants.{OutputShort}
-use Rattle.controller.specs.Decision.{isDone, numberOf}
+use Rattle.controller.specs.declared.answers.Answer.{Answer}
+use Rattle.controller.specs.declared.answers.Answer.the-variants.{OutputShort}
+use Rattle.controller.specs.Answers.{isDone, numberOf}
 use Rattle.lines.specs.declared.reader.Line.{Line}
 use Rattle.lines.specs.Reading.{lineOf}
 use Rattle.lines.specs.Writing.{Writing, lineWriting, onto}
-use Rattle.planner.specs.Plan.{sixBytes}
+use Rattle.controller.specs.Sent.{sixBytes}
 use Rattle.interface.specs.Filling.{Filling}
 
 -- The call of a text that is written.

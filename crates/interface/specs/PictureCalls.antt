@@ -5,10 +5,10 @@ use mathlib.Core.List.{List}
 use Prim.Native.Nat.{ℕ}
 use lib.Dec.{eqb}
 use lib.ListN.{length}
-use Rattle.controller.specs.declared.decision.Answer.the-variants.{Unsound}
+use Rattle.controller.specs.declared.answers.Answer.the-variants.{Unsound}
 use Rattle.controller.specs.declared.«record».Record.{Record}
-use Rattle.controller.specs.Decision.{numberOf}
-use Rattle.glass.specs.Picture.{answered, output}
+use Rattle.controller.specs.Answers.{numberOf}
+use Rattle.dots.specs.Picture.{answered, output}
 use Rattle.interface.specs.declared.record_bytes.ReadRecord.{ReadRecord}
 use Rattle.interface.specs.declared.record_bytes.ReadRecord.the-variants.{Is, Broken}
 use Rattle.interface.specs.Filling.{Filling}

@@ -4,11 +4,11 @@ use mathlib.Core.Bool.{cond, not}
 use mathlib.Core.List.{List}
 use Prim.Native.Nat.{ℕ, _+_, _*_}
 use lib.ListN.{length}
-use Rattle.controller.specs.declared.decision.Answer.{Answer}
-use Rattle.controller.specs.declared.decision.Answer.the-variants.{NotWhole, NotWish}
+use Rattle.controller.specs.declared.answers.Answer.{Answer}
+use Rattle.controller.specs.declared.answers.Answer.the-variants.{NotWhole, NotWish}
 use Rattle.controller.specs.Bus.{whole}
-use Rattle.controller.specs.Decision.{numberOf}
-use Rattle.planner.specs.Bus.{Reply, laidOut, replyTo}
+use Rattle.controller.specs.Answers.{numberOf}
+use Rattle.planner.specs.Call.{Reply, laidOut, replyTo}
 use Rattle.interface.specs.declared.wish_bytes.ReadWish.{ReadWish}
 use Rattle.interface.specs.declared.wish_bytes.ReadWish.the-variants.{Is, Broken}
 use Rattle.interface.specs.Filling.{Filling}

@@ -10,7 +10,7 @@ use Rattle.controller.specs.declared.cells.Counter.the-variants.{Display, Patte
 use Rattle.controller.specs.declared.«record».Half.{Half}
 use Rattle.controller.specs.declared.«record».Half.the-variants.{Empty, InstructionWrite, DataWrite, StatusRead, DataRead}
 use Rattle.controller.specs.declared.«record».Record.{Record}
-use Rattle.planner.specs.Plan.{littleEndian, numberFrom}
+use Rattle.controller.specs.Sent.{littleEndian, numberFrom}
 use Rattle.interface.specs.declared.record_bytes.ReadRecord.{ReadRecord}
 use Rattle.interface.specs.declared.record_bytes.ReadRecord.the-variants.{Is, Broken}
 
@@ -100,8 +100,8 @@ sameBytes (x ∷ xs) [] = false
 sameBytes (x ∷ xs) (y ∷ ys) = eqb x y && sameBytes xs ys
 
 -- The record if these bytes are its own.
-unfoldable pub readAs : Record → List ℕ → ReadRecord
-readAs rec bytes = cond (sameBytes bytes (recordBytes rec)) (Is rec) Broken
+unfoldable pub recordAs : Record → List ℕ → ReadRecord
+recordAs rec bytes = cond (sameBytes bytes (recordBytes rec)) (Is rec) Broken
 
 -- The bytes are as many as a record has.
 unfoldable pub isRecordLong : List ℕ → Bool
@@ -109,4 +109,4 @@ isRecordLong bytes = eqb (length bytes) 24
 
 -- What bytes say: the one record whose 24 bytes they are. Any other length or value is none.
 unfoldable pub recordIn : List ℕ → ReadRecord
-recordIn bytes = cond (isRecordLong bytes) (readAs (recordFrom bytes) bytes) Broken
+recordIn bytes = cond (isRecordLong bytes) (recordAs (recordFrom bytes) bytes) Broken

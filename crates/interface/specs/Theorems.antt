@@ -8,17 +8,17 @@ use mathlib.Core.Path.{_≡_}
 use Prim.Native.Nat.{ℕ, _%_}
 use lib.Dec.{eqb, ltb}
 use lib.ListN.{length}
-use Rattle.controller.specs.declared.decision.Answer.{Answer}
+use Rattle.controller.specs.declared.answers.Answer.{Answer}
 use Rattle.controller.specs.declared.«record».Record.{Record}
 use Rattle.controller.specs.Bus.{whole}
-use Rattle.controller.specs.Decision.{isRefusal, numberOf}
+use Rattle.controller.specs.Answers.{isRefusal, numberOf, Row, Given}
 use Rattle.controller.specs.Record.{sound}
-use Rattle.controller.specs.Rows.{Row, Given, resetRows, transferRows}
+use Rattle.controller.specs.Rows.{resetRows, transferRows}
 use Rattle.controller.specs.Theorems.{left}
-use Rattle.glass.specs.Theorems.{pictureRows}
+use Rattle.dots.specs.Theorems.{pictureRows}
 use Rattle.lines.specs.Theorems.{Starts, writerRows}
 use Rattle.planner.specs.declared.wish.Wish.{Wish}
-use Rattle.planner.specs.Bus.{wanted}
+use Rattle.planner.specs.Call.{wanted}
 use Rattle.planner.specs.Wish.{isWish}
 use Rattle.interface.specs.declared.record_bytes.ReadRecord.{ReadRecord}
 use Rattle.interface.specs.declared.record_bytes.ReadRecord.the-variants.{Is, Broken}
@@ -86,9 +86,9 @@ abbrev pub Tells : ℕ → List Row → Type 0
 Tells returned rows = (n : ℕ) → (answerIn returned ≡ n) ↔ Given n rows
 
 -- The rows of a call over a record's bytes: 1 where they say no record, else the rows of the record that they say.
-unfoldable pub rowsFrom : ReadRecord → (Record → List Row) → List Row
-rowsFrom Broken rows = record { number = 1; applies = true } ∷ []
-rowsFrom (Is rec) rows = rows rec
+unfoldable pub recordRows : ReadRecord → (Record → List Row) → List Row
+recordRows Broken rows = record { number = 1; applies = true } ∷ []
+recordRows (Is rec) rows = rows rec
 
 -- The rows of `yaropesk_reset`: 1 where the record's bytes are not 24, then 2.
 unfoldable pub resetCallRows : List ℕ → List ℕ → List Row
@@ -117,9 +117,9 @@ ReadTells returned text out =
 pub record CallAnswers : Type 0 where
   pub reset : (bytes mem : List ℕ) → Tells (resetCall bytes mem .returned) (resetCallRows bytes mem)
   pub transfer : (bytes mem : List ℕ) (kind byte wait : ℕ)
-      → Tells (transferCall bytes mem kind byte wait .returned) (rowsFrom (recordIn bytes) (λ rec. transferRows rec mem kind byte wait))
+      → Tells (transferCall bytes mem kind byte wait .returned) (recordRows (recordIn bytes) (λ rec. transferRows rec mem kind byte wait))
   pub picture : (bytes mem : List ℕ) (columns lines lit : ℕ) (out : List ℕ)
-      → Tells (pictureCall bytes mem columns lines lit out .returned) (rowsFrom (recordIn bytes) (λ rec. pictureRows rec mem columns lines (length out)))
+      → Tells (pictureCall bytes mem columns lines lit out .returned) (recordRows (recordIn bytes) (λ rec. pictureRows rec mem columns lines (length out)))
   pub plan : (wish marks values out : List ℕ) → Tells (planCall wish marks values out .returned) (planCallRows (wishIn wish) marks values out)
   pub write-line : (kind byte wait : ℕ) (out : List ℕ) → Tells (writeCall kind byte wait out .returned) (writerRows kind byte out)
   pub read-line : (text out : List ℕ) → ReadTells (readCall text out .returned) text out

@@ -2,7 +2,7 @@
 ghost use mathlib.Core.Path.{_≡_};
 ghost use lib.ListN.{length};
 ghost use Rattle.controller.specs.Bus.{decided, resetDecided};
-ghost use Rattle.interface.specs.ControllerCalls.{Left, Meets, callOf, resetCall, transferCall};
+ghost use Rattle.interface.specs.ControllerCalls.{Left, Leaves, callOf, resetCall, transferCall};
 ghost use Rattle.interface.specs.RecordBytes.{recordFrom};
 use crate::record_bytes::ReadRecord;
 use crate::record_bytes::is_record_long;
@@ -37,7 +37,7 @@ fn transfer_from(
     wait: u32,
 ) -> u32
     requires { ⌜ length (now bytes) ≡ 24 ⌝ }
-    ensures { λ r. ⌜ Meets (callOf (decided rec (now (memory .entry)) kind byte wait) (now (memory .entry))) r (now (bytes .exit)) (now (memory .exit)) ⌝ }
+    ensures { λ r. ⌜ Leaves (callOf (decided rec (now (memory .entry)) kind byte wait) (now (memory .entry))) r (now (bytes .exit)) (now (memory .exit)) ⌝ }
 {
     let outcome = transfer(rec, memory, kind, byte, wait);
     leave(outcome, bytes)
@@ -52,7 +52,7 @@ pub extern "C" fn yaropesk_transfer(
     byte: u8,
     wait: u32,
 ) -> u32
-    ensures { λ r. ⌜ Meets (transferCall (now (bytes .entry)) (now (memory .entry)) kind byte wait) r (now (bytes .exit)) (now (memory .exit)) ⌝ }
+    ensures { λ r. ⌜ Leaves (transferCall (now (bytes .entry)) (now (memory .entry)) kind byte wait) r (now (bytes .exit)) (now (memory .exit)) ⌝ }
 {
     let read = read_record(bytes);
     match read {
@@ -64,7 +64,7 @@ pub extern "C" fn yaropesk_transfer(
 // A reset over 24 bytes, whatever they say.
 fn reset_from(bytes: &mut [u8], memory: &mut [u8]) -> u32
     requires { ⌜ length (now bytes) ≡ 24 ⌝ }
-    ensures { λ r. ⌜ Meets (callOf (resetDecided (recordFrom (now (bytes .entry))) (now (memory .entry))) (now (memory .entry))) r (now (bytes .exit)) (now (memory .exit)) ⌝ }
+    ensures { λ r. ⌜ Leaves (callOf (resetDecided (recordFrom (now (bytes .entry))) (now (memory .entry))) (now (memory .entry))) r (now (bytes .exit)) (now (memory .exit)) ⌝ }
 {
     let outcome = reset(record_from(bytes), memory);
     leave(outcome, bytes)
@@ -73,7 +73,7 @@ fn reset_from(bytes: &mut [u8], memory: &mut [u8]) -> u32
 // Power on. Any 24 bytes will do for the record.
 #[no_mangle]
 pub extern "C" fn yaropesk_reset(bytes: &mut [u8], memory: &mut [u8]) -> u32
-    ensures { λ r. ⌜ Meets (resetCall (now (bytes .entry)) (now (memory .entry))) r (now (bytes .exit)) (now (memory .exit)) ⌝ }
+    ensures { λ r. ⌜ Leaves (resetCall (now (bytes .entry)) (now (memory .entry))) r (now (bytes .exit)) (now (memory .exit)) ⌝ }
 {
     if !is_record_long(bytes) {
         return 1;

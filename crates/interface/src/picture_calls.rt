@@ -8,7 +8,7 @@ use crate::record_bytes::ReadRecord;
 use crate::record_bytes::read_record;
 use crate::told::returned;
 use controller::Record;
-use glass::picture;
+use dots::picture;
 
 // The picture of the record that was read.
 fn picture_of(rec: Record, memory: &[u8], columns: u8, lines: u8, lit: bool, out: &mut [u8]) -> u32

@@ -1,7 +1,7 @@
 // The plan for a wish of 16 bytes.
 ghost use mathlib.Core.Path.{_≡_};
-ghost use Rattle.controller.specs.Decision.{numberOf};
-ghost use Rattle.planner.specs.Bus.{replyTo};
+ghost use Rattle.controller.specs.Answers.{numberOf};
+ghost use Rattle.planner.specs.Call.{replyTo};
 ghost use Rattle.interface.specs.Filling.{Fills};
 ghost use Rattle.interface.specs.PlanCalls.{planCall, planningOf, wishless};
 use crate::told::counted;

@@ -2,8 +2,8 @@
 ghost use mathlib.Core.Path.{_≡_};
 ghost use Prim.Native.Nat.{_+_, _*_};
 ghost use lib.ListN.{length};
-ghost use Rattle.planner.specs.Plan.{numberFrom};
-ghost use Rattle.interface.specs.RecordBytes.{bitByte, cellByte, counterFrom, halfByte, halfFrom, isRecordLong, memoryByte, recordBytes, recordFrom, readAs, recordIn, valueByte, widthByte};
+ghost use Rattle.controller.specs.Sent.{numberFrom};
+ghost use Rattle.interface.specs.RecordBytes.{bitByte, cellByte, counterFrom, halfByte, halfFrom, isRecordLong, memoryByte, recordBytes, recordFrom, recordAs, recordIn, valueByte, widthByte};
 use controller::Control;
 use controller::Counter;
 use controller::Entry;
@@ -176,8 +176,8 @@ pub fn record_from(bytes: &[u8]) -> Record
 }
 
 // The record if these bytes are its own.
-fn read_as(rec: Record, bytes: &[u8]) -> ReadRecord
-    ensures { λ r. ⌜ r ≡ readAs rec (now (bytes .entry)) ⌝ }
+fn read_record_as(rec: Record, bytes: &[u8]) -> ReadRecord
+    ensures { λ r. ⌜ r ≡ recordAs rec (now (bytes .entry)) ⌝ }
 {
     let own = bytes_of(rec);
     if check::same(bytes, &own) {
@@ -200,7 +200,7 @@ pub fn read_record(bytes: &[u8]) -> ReadRecord
     if !is_record_long(bytes) {
         return ReadRecord::Broken;
     }
-    read_as(record_from(bytes), bytes)
+    read_record_as(record_from(bytes), bytes)
 }
 
 // Writes a record over 24 bytes.

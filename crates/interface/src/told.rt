@@ -1,7 +1,7 @@
 // What the calls return: the answer's number, and 256 times a byte, a count or a length.
 ghost use mathlib.Core.Path.{_≡_};
 ghost use Prim.Native.Nat.{_+_, _*_, _≤_};
-ghost use Rattle.controller.specs.Decision.{numberOf};
+ghost use Rattle.controller.specs.Answers.{numberOf};
 use controller::Answer;
 use controller::number;
 

@@ -2,5 +2,5 @@ pub mod Digits
 pub mod Line
 pub mod Reading
 pub mod Writing
-pub mod Rows
+pub mod ReportText
 pub mod Theorems

@@ -5,7 +5,7 @@ use mathlib.Core.List.{List, [], _∷_}
 use Prim.Native.Nat.{ℕ, _+_, _*_}
 use lib.Dec.{ltb, leb, eqb}
 use lib.ListN.{getD, drop}
-use Rattle.controller.specs.declared.decision.Answer.the-variants.{Done, BadLine}
+use Rattle.controller.specs.declared.answers.Answer.the-variants.{Done, BadLine}
 use Rattle.controller.specs.Bus.{badTransfer}
 use Rattle.lines.specs.declared.reader.Line.{Line}
 use Rattle.lines.specs.declared.reader.Wait.{Wait}
@@ -14,20 +14,20 @@ use Rattle.lines.specs.Digits.{tab, newline, worthOf}
 use Rattle.lines.specs.Line.{kindOf, waitLimit}
 
 -- The byte at a place of the text. Past the end there is 00h, which can stand nowhere in a line.
-unfoldable pub byteAt : List ℕ → ℕ → ℕ
-byteAt text place = getD text place 0
+unfoldable pub textAt : List ℕ → ℕ → ℕ
+textAt text place = getD text place 0
 
 -- The kind's letter and its tab stand.
 unfoldable pub kindStands : List ℕ → Bool
-kindStands text = ltb (kindOf (byteAt text 0)) 4 && eqb (byteAt text 1) tab
+kindStands text = ltb (kindOf (textAt text 0)) 4 && eqb (textAt text 1) tab
 
 -- The byte that two digits say.
 abbrev pub byteRead : List ℕ → ℕ
-byteRead text = worthOf (byteAt text 2) * 16 + worthOf (byteAt text 3)
+byteRead text = worthOf (textAt text 2) * 16 + worthOf (textAt text 3)
 
 -- Two upper-case hex digits and their tab stand.
 unfoldable pub byteStands : List ℕ → Bool
-byteStands text = ltb (worthOf (byteAt text 2)) 16 && (ltb (worthOf (byteAt text 3)) 16 && eqb (byteAt text 4) tab)
+byteStands text = ltb (worthOf (textAt text 2)) 16 && (ltb (worthOf (textAt text 3)) 16 && eqb (textAt text 4) tab)
 
 -- A decimal digit may follow digits of this value: not after a leading zero, and not past the limit.
 unfoldable pub mayFollow : ℕ → ℕ → Bool
@@ -42,7 +42,7 @@ restOf place value (byte ∷ rest) =
 
 -- The wait, with the line's length: a first digit, and its rest.
 unfoldable pub waitOf : List ℕ → Wait
-waitOf text = cond (ltb (worthOf (byteAt text 5)) 10) (restOf 6 (worthOf (byteAt text 5)) (drop 6 text)) Bad
+waitOf text = cond (ltb (worthOf (textAt text 5)) 10) (restOf 6 (worthOf (textAt text 5)) (drop 6 text)) Bad
 
 -- A bad line: zeros for all that is returned.
 abbrev pub badLine : Line
@@ -54,12 +54,12 @@ withWait kind byte Bad = badLine
 withWait kind byte (Good wait length) = record { answer = Done; kind = kind; byte = byte; wait = wait; length = length }
 
 -- With its kind and byte read: `S` and `R` carry 00.
-unfoldable pub completed : ℕ → ℕ → List ℕ → Line
-completed kind byte text = cond (badTransfer kind byte) badLine (withWait kind byte (waitOf text))
+unfoldable pub lineFrom : ℕ → ℕ → List ℕ → Line
+lineFrom kind byte text = cond (badTransfer kind byte) badLine (withWait kind byte (waitOf text))
 
 -- The line at the start of the text, or a bad line.
 unfoldable pub lineOf : List ℕ → Line
 lineOf text =
     cond (kindStands text)
-    (cond (byteStands text) (completed (kindOf (byteAt text 0)) (byteRead text) text) badLine)
+    (cond (byteStands text) (lineFrom (kindOf (textAt text 0)) (byteRead text) text) badLine)
     badLine

@@ -8,15 +8,14 @@ use mathlib.Core.Path.{_≡_}
 use Prim.Native.Nat.{ℕ, _<_, _≤_}
 use lib.Dec.{ltb}
 use lib.ListN.{length, take}
-use Rattle.controller.specs.declared.decision.Answer.the-variants.{Done}
+use Rattle.controller.specs.declared.answers.Answer.the-variants.{Done}
 use Rattle.controller.specs.Bus.{badTransfer}
-use Rattle.controller.specs.Decision.{numberOf}
-use Rattle.controller.specs.Rows.{Row, Given}
+use Rattle.controller.specs.Answers.{numberOf, Row, Given}
 use Rattle.lines.specs.declared.reader.Line.{Line}
 use Rattle.lines.specs.declared.writer.Written.{Written}
 use Rattle.lines.specs.Line.{line, waitLimit}
 use Rattle.lines.specs.Reading.{lineOf, badLine}
-use Rattle.lines.specs.Writing.{Writing, Meets, writing, wanting, lineWriting}
+use Rattle.lines.specs.Writing.{Writing, Writes, writing, wanting, lineWriting}
 
 -- A transfer that a line can say: a kind 0 to 3, a byte, 00h for a read, and a wait 0 to 4,294,967,295.
 pub record Sayable (kind byte wait : ℕ) : Type 0 where
@@ -34,18 +33,18 @@ pub record Starts (text : List ℕ) : Type 0 where
   pub stands : text ≡ line kind byte wait ++ more
 
 -- The line of a transfer as it is read.
-abbrev pub readAs : ℕ → ℕ → ℕ → Line
-readAs kind byte wait = record { answer = Done; kind = kind; byte = byte; wait = wait; length = length (line kind byte wait) }
+abbrev pub lineRead : ℕ → ℕ → ℕ → Line
+lineRead kind byte wait = record { answer = Done; kind = kind; byte = byte; wait = wait; length = length (line kind byte wait) }
 
 -- What was written reads back as the same transfer, with any text after it.
 abbrev pub WrittenReadsBack : Type 0
-WrittenReadsBack = (kind byte wait : ℕ) (more : List ℕ) → Sayable kind byte wait → lineOf (line kind byte wait ++ more) ≡ readAs kind byte wait
+WrittenReadsBack = (kind byte wait : ℕ) (more : List ℕ) → Sayable kind byte wait → lineOf (line kind byte wait ++ more) ≡ lineRead kind byte wait
 
 -- So a buffer into which a line was written reads back as the same transfer, whatever stands after the line.
 abbrev pub BufferReadsBack : Type 0
 BufferReadsBack =
     (kind byte wait : ℕ) (out : List ℕ) (told : Written) (after : List ℕ) → byte < 256 → wait ≤ waitLimit
-    → Meets (lineWriting kind byte wait out) out told after → told .answer ≡ Done → lineOf after ≡ readAs kind byte wait
+    → Writes (lineWriting kind byte wait out) out told after → told .answer ≡ Done → lineOf after ≡ lineRead kind byte wait
 
 -- A line that was read is written out the same, byte for byte, into any buffer of at least 16 bytes.
 abbrev pub ReadWritesBack : Type 0
@@ -94,7 +93,7 @@ LinesFit = (kind byte wait : ℕ) → wait ≤ waitLimit → length (line kind b
 
 -- No second answer fits: two outcomes that both meet the promise of a writing call are one, and so are the buffers.
 abbrev pub OneWriting : Type 0
-OneWriting = (w : Writing) (out : List ℕ) (a b : Written) (x y : List ℕ) → Meets w out a x → Meets w out b y → (a ≡ b) × (x ≡ y)
+OneWriting = (w : Writing) (out : List ℕ) (a b : Written) (x y : List ℕ) → Writes w out a x → Writes w out b y → (a ≡ b) × (x ≡ y)
 
 -- And two lines that both are what the reader promises are one.
 abbrev pub OneRead : Type 0

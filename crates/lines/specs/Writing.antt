@@ -7,10 +7,10 @@ use mathlib.Core.Path.{_≡_}
 use Prim.Native.Nat.{ℕ}
 use lib.Dec.{ltb}
 use lib.ListN.{length, drop}
-use Rattle.controller.specs.declared.decision.Answer.{Answer}
-use Rattle.controller.specs.declared.decision.Answer.the-variants.{Done, BadTransfer, OutputShort}
+use Rattle.controller.specs.declared.answers.Answer.{Answer}
+use Rattle.controller.specs.declared.answers.Answer.the-variants.{Done, BadTransfer, OutputShort}
 use Rattle.controller.specs.Bus.{badTransfer}
-use Rattle.controller.specs.Decision.{numberOf}
+use Rattle.controller.specs.Answers.{numberOf}
 use Rattle.lines.specs.declared.writer.Written.{Written}
 use Rattle.lines.specs.Line.{line}
 
@@ -36,7 +36,7 @@ abbrev pub writtenOf : Writing → Written
 writtenOf w = record { answer = w .answer; length = length (w .text) }
 
 -- What a call that writes text promises: what is returned, its number in the table, and every byte of the buffer.
-pub record Meets (w : Writing) (before : List ℕ) (returned : Written) (after : List ℕ) : Type 0 where
+pub record Writes (w : Writing) (before : List ℕ) (returned : Written) (after : List ℕ) : Type 0 where
   pub told : returned ≡ writtenOf w
   pub number : numberOf (returned .answer) ≡ numberOf (w .answer)
   pub buffer : after ≡ onto (w .text) before

@@ -3,7 +3,7 @@ ghost use mathlib.Core.Path.{_≡_};
 ghost use Prim.Native.Nat.{_<_, _≤_};
 ghost use lib.ListN.{drop};
 ghost use Rattle.lines.specs.Line.{waitLimit};
-ghost use Rattle.lines.specs.Reading.{badLine, byteAt, byteStands, completed, kindStands, lineOf, mayFollow, restOf, waitOf, withWait};
+ghost use Rattle.lines.specs.Reading.{badLine, textAt, byteStands, lineFrom, kindStands, lineOf, mayFollow, restOf, waitOf, withWait};
 use crate::digits::kind_of;
 use crate::digits::worth_of;
 use controller::Answer;
@@ -25,8 +25,8 @@ pub enum Wait {
 }
 
 // The byte at a place, and 00h past the end.
-fn byte_at(text: &[u8], place: usize) -> u8
-    ensures { λ r. ⌜ r ≡ byteAt (now (text .entry)) place ⌝ }
+fn text_at(text: &[u8], place: usize) -> u8
+    ensures { λ r. ⌜ r ≡ textAt (now (text .entry)) place ⌝ }
 {
     if place < text.len() {
         return text[place];
@@ -37,14 +37,14 @@ fn byte_at(text: &[u8], place: usize) -> u8
 fn kind_stands(text: &[u8]) -> bool
     ensures { λ r. ⌜ r ≡ kindStands (now (text .entry)) ⌝ }
 {
-    kind_of(byte_at(text, 0)) < 4 && byte_at(text, 1) == b'\t'
+    kind_of(text_at(text, 0)) < 4 && text_at(text, 1) == b'\t'
 }
 
 fn byte_stands(text: &[u8]) -> bool
     ensures { λ r. ⌜ r ≡ byteStands (now (text .entry)) ⌝ }
 {
-    worth_of(byte_at(text, 2)) < 16
-        && (worth_of(byte_at(text, 3)) < 16 && byte_at(text, 4) == b'\t')
+    worth_of(text_at(text, 2)) < 16
+        && (worth_of(text_at(text, 3)) < 16 && text_at(text, 4) == b'\t')
 }
 
 // Whether a digit may follow digits of this value.
@@ -80,7 +80,7 @@ fn read_rest(text: &[u8], first: u8) -> Wait
 fn read_wait(text: &[u8]) -> Wait
     ensures { λ r. ⌜ r ≡ waitOf (now (text .entry)) ⌝ }
 {
-    let first = worth_of(byte_at(text, 5));
+    let first = worth_of(text_at(text, 5));
     if first < 10 {
         return read_rest(text, first);
     }
@@ -115,8 +115,8 @@ fn with_wait(kind: u8, byte: u8, wait: Wait) -> Line
 }
 
 // `S` and `R` carry 00.
-fn complete(kind: u8, byte: u8, text: &[u8]) -> Line
-    ensures { λ r. ⌜ r ≡ completed kind byte (now (text .entry)) ⌝ }
+fn line_from(kind: u8, byte: u8, text: &[u8]) -> Line
+    ensures { λ r. ⌜ r ≡ lineFrom kind byte (now (text .entry)) ⌝ }
 {
     if is_bad(kind, byte) {
         return bad_line();
@@ -134,8 +134,8 @@ pub fn read_line(text: &[u8]) -> Line
     if !byte_stands(text) {
         return bad_line();
     }
-    let kind = kind_of(byte_at(text, 0));
-    let high = worth_of(byte_at(text, 2));
-    let low = worth_of(byte_at(text, 3));
-    complete(kind, high * 16 + low, text)
+    let kind = kind_of(text_at(text, 0));
+    let high = worth_of(text_at(text, 2));
+    let low = worth_of(text_at(text, 3));
+    line_from(kind, high * 16 + low, text)
 }

@@ -9,7 +9,8 @@ use lib.ListN.{length, getD}
 use Rattle.controller.specs.Cells.{placeOf}
 use Rattle.controller.specs.Execute.{shortTime}
 use Rattle.controller.specs.Record.{sound}
-use Rattle.controller.specs.Runs.{State, Sent, Heard, ran, heard}
+use Rattle.controller.specs.declared.sent.Sent.{Sent}
+use Rattle.controller.specs.Runs.{State, Heard, ran, heard}
 use Rattle.controller.specs.declared.cells.Counter.the-variants.{Display}
 use Rattle.controller.specs.declared.«record».Half.{Half}
 use Rattle.controller.specs.declared.«record».Half.the-variants.{Empty, InstructionWrite, DataWrite, StatusRead, DataRead}
@@ -97,8 +98,8 @@ abbrev pub Bytes : List ℕ → Type 0
 Bytes values = (place : ℕ) → getD values place 0 < 256
 
 -- Demand 3.
-abbrev pub Demand3 : Type 0
-Demand3 =
+abbrev pub CutRuns : Type 0
+CutRuns =
     (wish : Wish) (marks values : List ℕ) (start : State) (cut : List (List Sent)) (last : List Sent)
     → isWish wish marks ≡ true → Bytes values → sound (start .rec) ≡ true → length (start .mem) ≡ 144
     → EachBegun (planOf wish marks values) cut → Whole (planOf wish marks values) last

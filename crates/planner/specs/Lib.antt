@@ -1,6 +1,6 @@
 pub mod Wish
 pub mod Plan
-pub mod Bus
+pub mod Call
 pub mod Pen
 pub mod Demand
 pub mod Theorems

@@ -8,7 +8,8 @@ use lib.ListN.{getD, replicate}
 use Rattle.controller.specs.Cells.{addressSet}
 use Rattle.controller.specs.Execute.{shortTime, longTime}
 use Rattle.controller.specs.Halves.{highHalf, lowHalf}
-use Rattle.controller.specs.Runs.{Sent}
+use Rattle.controller.specs.Sent.{sixBytes}
+use Rattle.controller.specs.declared.sent.Sent.{Sent}
 use Rattle.controller.specs.declared.cells.Counter.{Counter}
 use Rattle.controller.specs.declared.cells.Counter.the-variants.{Display, Pattern}
 use Rattle.planner.specs.declared.wish.Wish.{Wish}
@@ -102,18 +103,6 @@ inHalves before (command ∷ rest) = firstSent before command ∷ secondSent com
 -- The plan. The first half after item 1 waits 100.
 unfoldable pub planOf : Wish → List ℕ → List ℕ → List Sent
 planOf wish marks values = opening ++ inHalves 100 (commands wish marks values)
-
--- A number as four bytes, little-endian.
-abbrev pub littleEndian : ℕ → List ℕ
-littleEndian number = number % 256 ∷ number / 256 % 256 ∷ number / 65536 % 256 ∷ number / 16777216 % 256 ∷ []
-
--- The number of four bytes, little-endian.
-abbrev pub numberFrom : ℕ → ℕ → ℕ → ℕ → ℕ
-numberFrom first second third fourth = first + second * 256 + third * 65536 + fourth * 16777216
-
--- Records are six bytes: kind, byte, wait little-endian.
-abbrev pub sixBytes : Sent → List ℕ
-sixBytes t = t .kind ∷ t .byte ∷ littleEndian (t .wait)
 
 -- The bytes of these records, one after the other.
 unfoldable pub encoded : List Sent → List ℕ

@@ -9,16 +9,17 @@ use lib.Dec.{ltb}
 use lib.ListN.{length, getD, drop, replicate}
 use Rattle.controller.specs.Bus.{whole}
 use Rattle.controller.specs.Cells.{lineLength}
-use Rattle.controller.specs.Decision.{numberOf}
+use Rattle.controller.specs.Answers.{numberOf, Row, Given}
 use Rattle.controller.specs.Record.{sound}
-use Rattle.controller.specs.Rows.{Row, Given}
-use Rattle.controller.specs.Runs.{State, Sent, ran}
-use Rattle.controller.specs.declared.decision.Answer.the-variants.{Done}
-use Rattle.planner.specs.declared.bus.Planned.{Planned}
+use Rattle.controller.specs.declared.sent.Sent.{Sent}
+use Rattle.controller.specs.Runs.{State, ran}
+use Rattle.controller.specs.declared.answers.Answer.the-variants.{Done}
+use Rattle.planner.specs.declared.call.Planned.{Planned}
 use Rattle.planner.specs.declared.wish.Wish.{Wish}
-use Rattle.planner.specs.Bus.{replyTo, wanted, Meets}
+use Rattle.planner.specs.Call.{replyTo, wanted, Plans}
 use Rattle.planner.specs.Demand.{Bytes, excepted}
-use Rattle.planner.specs.Plan.{single, planOf, numberFrom}
+use Rattle.controller.specs.Sent.{numberFrom}
+use Rattle.planner.specs.Plan.{single, planOf}
 use Rattle.planner.specs.Wish.{isWish}
 
 -- The rows of plan in their order.
@@ -51,14 +52,14 @@ NotWishes =
 -- A refused call plans nothing and leaves the buffer as found.
 abbrev pub PlanRefusals : Type 0
 PlanRefusals =
-    (wish : Wish) (marks values out : List ℕ) (returned : Planned) (after : List ℕ) → Meets (replyTo wish marks values out) out returned after
+    (wish : Wish) (marks values out : List ℕ) (returned : Planned) (after : List ℕ) → Plans (replyTo wish marks values out) out returned after
     → (numberOf (returned .answer) ≡ 0 → ⊥) → (returned .count ≡ 0) × (after ≡ out)
 
 -- No second answer fits.
 abbrev pub OnePlan : Type 0
 OnePlan =
     (wish : Wish) (marks values out : List ℕ) (a b : Planned) (x y : List ℕ)
-    → Meets (replyTo wish marks values out) out a x → Meets (replyTo wish marks values out) out b y → (a ≡ b) × (x ≡ y)
+    → Plans (replyTo wish marks values out) out a x → Plans (replyTo wish marks values out) out b y → (a ≡ b) × (x ≡ y)
 
 -- At most 468 records.
 abbrev pub AtMost468 : Type 0
@@ -126,5 +127,5 @@ readBack (suc count) bytes = sentAt bytes ∷ readBack count (drop 6 bytes)
 abbrev pub BoardSendsPlan : Type 0
 BoardSendsPlan =
     (wish : Wish) (marks values out : List ℕ) (returned : Planned) (after : List ℕ) → Bytes values
-    → Meets (replyTo wish marks values out) out returned after → returned .answer ≡ Done
+    → Plans (replyTo wish marks values out) out returned after → returned .answer ≡ Done
     → (isWish wish marks ≡ true) × (readBack (returned .count) after ≡ planOf wish marks values)

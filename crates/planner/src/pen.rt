@@ -5,7 +5,8 @@ ghost use Prim.Native.Nat.{_+_, _*_, _<_, _≤_};
 ghost use lib.ListN.{length};
 ghost use lib.Seq.{sets};
 ghost use Rattle.planner.specs.Pen.{Wrote};
-ghost use Rattle.planner.specs.Plan.{sixBytes, timeOf};
+ghost use Rattle.controller.specs.Sent.{sixBytes};
+ghost use Rattle.planner.specs.Plan.{timeOf};
 use controller::long_time;
 use controller::short_time;
 

@@ -12,7 +12,7 @@ use Rattle.controller.specs.declared.«record».Record.{Record}
 use Rattle.controller.specs.Decision.{performed}
 use Rattle.controller.specs.Runs.{Heard, decidedOf, toldOf}
 use Rattle.lines.specs.declared.reader.Line.{Line}
-use Rattle.lines.specs.Rows.{row}
+use Rattle.lines.specs.ReportText.{row}
 use Rattle.lines.specs.Writing.{onto}
 use Rattle.player.specs.declared.session.Step.{Step}
 use Rattle.player.specs.Session.{sentOf, sessionOf}

@@ -4,11 +4,11 @@ use mathlib.Core.Bool.{cond}
 use mathlib.Core.List.{List, [], _∷_, _++_}
 use Prim.Native.Nat.{ℕ, _+_, _*_}
 use lib.ListN.{length, replicate}
-use Rattle.controller.specs.declared.decision.Answer.{Answer}
-use Rattle.controller.specs.Decision.{isDone, numberOf}
+use Rattle.controller.specs.declared.answers.Answer.{Answer}
+use Rattle.controller.specs.Answers.{isDone, numberOf}
 use Rattle.controller.specs.Record.{resetRecord}
 use Rattle.controller.specs.Runs.{State, Heard, heard, ran}
-use Rattle.lines.specs.Rows.{header, row}
+use Rattle.lines.specs.ReportText.{header, row}
 use Rattle.lines.specs.Writing.{Writing, wanting}
 use Rattle.player.specs.Session.{Session, sessionOf}
 

@@ -4,10 +4,10 @@ use mathlib.Core.Bool.{cond}
 use mathlib.Core.List.{List, [], _∷_}
 use Prim.Native.Nat.{ℕ, zero, suc}
 use lib.ListN.{length, drop}
-use Rattle.controller.specs.declared.decision.Answer.{Answer}
-use Rattle.controller.specs.declared.decision.Answer.the-variants.{Done}
-use Rattle.controller.specs.Decision.{isDone}
-use Rattle.controller.specs.Runs.{Sent}
+use Rattle.controller.specs.declared.answers.Answer.{Answer}
+use Rattle.controller.specs.declared.answers.Answer.the-variants.{Done}
+use Rattle.controller.specs.Answers.{isDone}
+use Rattle.controller.specs.declared.sent.Sent.{Sent}
 use Rattle.lines.specs.declared.reader.Line.{Line}
 use Rattle.lines.specs.Reading.{lineOf}
 
@@ -17,8 +17,8 @@ pub record Session : Type 0 where
   pub end : Answer
 
 -- No transfers, and this end.
-abbrev pub ending : Answer → Session
-ending answer = record { sent = []; end = answer }
+abbrev pub endedBy : Answer → Session
+endedBy answer = record { sent = []; end = answer }
 
 -- A transfer, and then a session.
 abbrev pub following : Sent → Session → Session
@@ -31,12 +31,12 @@ sentOf line = record { kind = line .kind; byte = line .byte; wait = line .wait }
 -- The lines of a text, each where the one before it ended, up to a bad one. The first argument, the text's length or more,
 -- only bounds the recursion: every line has some bytes.
 unfoldable pub readUpTo : ℕ → List ℕ → Session
-readUpTo zero text = ending Done
-readUpTo (suc k) [] = ending Done
+readUpTo zero text = endedBy Done
+readUpTo (suc k) [] = endedBy Done
 readUpTo (suc k) (byte ∷ rest) =
     cond (isDone (lineOf (byte ∷ rest) .answer))
     (following (sentOf (lineOf (byte ∷ rest))) (readUpTo k (drop (lineOf (byte ∷ rest) .length) (byte ∷ rest))))
-    (ending (lineOf (byte ∷ rest) .answer))
+    (endedBy (lineOf (byte ∷ rest) .answer))
 
 -- A session's text, line by line.
 unfoldable pub sessionOf : List ℕ → Session

@@ -7,16 +7,16 @@ use mathlib.Core.Path.{_≡_}
 use Prim.Native.Nat.{ℕ, _^_, _<_, _≤_}
 use lib.Dec.{ltb}
 use lib.ListN.{length}
-use Rattle.controller.specs.declared.decision.Answer.the-variants.{Done, BadLine}
-use Rattle.controller.specs.Decision.{numberOf}
+use Rattle.controller.specs.declared.answers.Answer.the-variants.{Done, BadLine}
+use Rattle.controller.specs.Answers.{numberOf, Row, Given}
 use Rattle.controller.specs.Record.{sound}
-use Rattle.controller.specs.Rows.{Row, Given}
-use Rattle.controller.specs.Runs.{Sent, heard}
+use Rattle.controller.specs.declared.sent.Sent.{Sent}
+use Rattle.controller.specs.Runs.{heard}
 use Rattle.lines.specs.declared.writer.Written.{Written}
 use Rattle.lines.specs.Line.{line}
-use Rattle.lines.specs.Rows.{header}
+use Rattle.lines.specs.ReportText.{header}
 use Rattle.lines.specs.Theorems.{Sayable}
-use Rattle.lines.specs.Writing.{Meets}
+use Rattle.lines.specs.Writing.{Writes}
 use Rattle.player.specs.declared.through.Standing.{Standing}
 use Rattle.player.specs.Session.{sessionOf}
 use Rattle.player.specs.Report.{rowsFrom, start, report, reportSize, playing}
@@ -61,7 +61,7 @@ PlayAnswers = (text out : List ℕ) (n : ℕ) → (numberOf (playing text out .a
 -- No second answer fits.
 abbrev pub OnePlay : Type 0
 OnePlay =
-    (text out : List ℕ) (a b : Written) (x y : List ℕ) → Meets (playing text out) out a x → Meets (playing text out) out b y → (a ≡ b) × (x ≡ y)
+    (text out : List ℕ) (a b : Written) (x y : List ℕ) → Writes (playing text out) out a x → Writes (playing text out) out b y → (a ≡ b) × (x ≡ y)
 
 -- And two standings that both are what play_through promises are one.
 abbrev pub OneStanding : Type 0

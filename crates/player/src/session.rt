@@ -5,8 +5,8 @@ ghost use Prim.Native.Nat.{_+_, _*_, _≤_};
 ghost use lib.Dec.{ltb};
 ghost use lib.ListN.{length};
 ghost use Rattle.controller.specs.Record.{sound};
-ghost use Rattle.lines.specs.Rows.{rowSize};
-ghost use Rattle.lines.specs.Writing.{Meets};
+ghost use Rattle.lines.specs.ReportText.{rowSize};
+ghost use Rattle.lines.specs.Writing.{Writes};
 ghost use Rattle.player.specs.Report.{playing};
 ghost use Rattle.player.specs.Playing.{Played, Plays, anyRecord};
 use controller::Answer;
@@ -110,7 +110,7 @@ fn is_short(text: usize, out: usize) -> bool
 
 // The whole report of a session, into a buffer of at least six bytes for each byte of the text and 62 more.
 pub fn play(text: &[u8], out: &mut [u8]) -> Written
-    ensures { λ r. ⌜ Meets (playing (now (text .entry)) (now (out .entry))) (now (out .entry)) r (now (out .exit)) ⌝ }
+    ensures { λ r. ⌜ Writes (playing (now (text .entry)) (now (out .entry))) (now (out .entry)) r (now (out .exit)) ⌝ }
 {
     if is_short(text.len(), out.len()) {
         return Written {

@@ -1,7 +1,7 @@
 -- The bench cases, cited where they are proved.
 -- Assumes nothing.
 use Rattle.controller.proofs.Theorems.Cases.{p1, p2, p3, p4, p6, p8, p9, p10, p11}
-use Rattle.glass.proofs.Cases.{p5, p7}
+use Rattle.dots.proofs.Cases.{p5, p7}
 use Rattle.planner.proofs.Theorems.Plan.{p12}
 use Rattle.promises.specs.Cases.{BenchCases}
 

@@ -12,9 +12,9 @@ use Rattle.controller.proofs.Theorems.Answers.{transfer-answers, reset-answers}
 use Rattle.controller.proofs.Theorems.Refusals.{transfer-refusals, reset-refusals}
 use Rattle.controller.proofs.Theorems.Sound.{transfer-keeps-sound, reset-makes-sound, effects-fit}
 use Rattle.controller.specs.Bus.{badTransfer}
-use Rattle.controller.specs.Decision.{numberOf}
+use Rattle.controller.specs.Answers.{numberOf}
 use Rattle.drawing.proofs.Theorems.{draw-answers, draw-refusals}
-use Rattle.glass.proofs.Theorems.{each-byte, later-stay, picture-answers, picture-refusals}
+use Rattle.dots.proofs.Theorems.{each-byte, later-stay, picture-answers, picture-refusals}
 use Rattle.interface.proofs.Theorems.Answers.{call-answers}
 use Rattle.interface.proofs.Theorems.Refusals.{call-refusals}
 use Rattle.lines.proofs.Theorems.One.{one-reading, writer-answers, text-answers}
@@ -22,7 +22,7 @@ use Rattle.lines.proofs.Theorems.Read.{reader-answers, read-writes-back}
 use Rattle.lines.proofs.Theorems.Written.{written-reads-back}
 use Rattle.lines.specs.Writing.{Writing, onto, wanting, lineWriting}
 use Rattle.lines.specs.declared.writer.Written.{Written}
-use Rattle.planner.proofs.Demand.Theorem.{demand-3}
+use Rattle.planner.proofs.Demand.Theorem.{cut-runs}
 use Rattle.planner.proofs.Theorems.Plan.{board-sends-plan}
 use Rattle.planner.proofs.Theorems.Wish.{not-wishes, plan-answers, plan-refusals}
 use Rattle.player.proofs.Theorems.One.{play-answers}
@@ -56,7 +56,7 @@ leaves w out none returned after meets refused =
     (ap (λ (r : Written). r .length) (meets .told) ∙ ap length empty, meets .buffer ∙ ap (λ (t : List ℕ). onto t out) empty)
 
 wanting-nothing : (size : ℕ) (text out : List ℕ) → WritesNothing (wanting size text out)
-unfolding wanting numberOf
+unfolding wanting
 wanting-nothing size text out = cond-elim WritesNothing (ltb (length out) size) _ _ (λ _ _. refl) (λ _ other. absurd (other refl))
 
 writer-nothing : (kind byte wait : ℕ) (out : List ℕ) → WritesNothing (lineWriting kind byte wait out)
@@ -100,4 +100,4 @@ demand-2 =
     }
 
 pub demands-3 : Demand3
-demands-3 = record { runs = demand-3; bytes = board-sends-plan }
+demands-3 = record { runs = cut-runs; bytes = board-sends-plan }

@@ -2,7 +2,7 @@
 -- Assumes nothing.
 use Rattle.controller.specs.Theorems.{TransferAnswers, ResetAnswers}
 use Rattle.drawing.specs.Theorems.{DrawAnswers}
-use Rattle.glass.specs.Theorems.{PictureAnswers}
+use Rattle.dots.specs.Theorems.{PictureAnswers}
 use Rattle.interface.specs.Theorems.{CallAnswers}
 use Rattle.lines.specs.Theorems.{ReaderAnswers, WriterAnswers, TextAnswers}
 use Rattle.planner.specs.Theorems.{PlanAnswers}

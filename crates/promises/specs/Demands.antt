@@ -9,13 +9,13 @@ use Rattle.controller.specs.Bus.{badTransfer, mustWait, decided}
 use Rattle.controller.specs.Halves.{accepted}
 use Rattle.controller.specs.Record.{sound, waited}
 use Rattle.controller.specs.declared.«record».Record.{Record}
-use Rattle.controller.specs.Decision.{numberOf}
+use Rattle.controller.specs.Answers.{numberOf}
 use Rattle.controller.specs.Theorems.{TransferKeepsSound, ResetMakesSound, EffectsFit, TransferRefusals, ResetRefusals}
 use Rattle.drawing.specs.Theorems.{DrawRefusals}
-use Rattle.glass.specs.Theorems.{EachByte, LaterStay, PictureRefusals}
+use Rattle.dots.specs.Theorems.{EachByte, LaterStay, PictureRefusals}
 use Rattle.interface.specs.Theorems.{CallRefusals}
 use Rattle.lines.specs.Theorems.{WrittenReadsBack, ReadWritesBack, OneReading}
-use Rattle.lines.specs.Writing.{Writing, Meets, wanting, lineWriting}
+use Rattle.lines.specs.Writing.{Writing, Writes, wanting, lineWriting}
 use Rattle.lines.specs.declared.writer.Written.{Written}
 use Rattle.planner.specs.Demand
 use Rattle.planner.specs.Theorems.{NotWishes, PlanRefusals, BoardSendsPlan}
@@ -26,7 +26,7 @@ use Rattle.promises.specs.Determined.{EachDetermined}
 -- A refused call that writes text gives length 0 and leaves the buffer as found.
 abbrev pub LeavesBuffer : Writing → List ℕ → Type 0
 LeavesBuffer w out =
-    (returned : Written) (after : List ℕ) → Meets w out returned after → (numberOf (returned .answer) ≡ 0 → ⊥)
+    (returned : Written) (after : List ℕ) → Writes w out returned after → (numberOf (returned .answer) ≡ 0 → ⊥)
     → (returned .length ≡ 0) × (after ≡ out)
 
 -- 1. Every call answers every input. Nothing has to be checked first; bad input gets a numbered refusal, and no refusal alters a
@@ -49,8 +49,8 @@ pub record Demand1 : Type 0 where
 
 -- A transfer is taken wherever nothing refuses it: with a sound record, a whole memory, a kind and byte in order, and no need to
 -- wait, it comes to what the rules of halves and instructions say.
-abbrev pub Taken : Type 0
-Taken =
+abbrev pub TakenUnlessRefused : Type 0
+TakenUnlessRefused =
     (rec : Record) (mem : List ℕ) (kind byte wait : ℕ) → sound rec ≡ true → length mem ≡ 144 → badTransfer kind byte ≡ false
     → mustWait kind (waited wait rec) ≡ false → decided rec mem kind byte wait ≡ accepted mem kind byte (waited wait rec)
 
@@ -59,7 +59,7 @@ Taken =
 -- definition, byte by byte. A session line, once written, reads back as the same transfer, and a line that was read is written
 -- out the same.
 pub record Demand2 : Type 0 where
-  pub taken : Taken
+  pub taken : TakenUnlessRefused
   pub kept : TransferKeepsSound
   pub reset : ResetMakesSound
   pub effects : EffectsFit
@@ -72,5 +72,5 @@ pub record Demand2 : Type 0 where
 -- 3. Any accepted wish, any sound controller, cut runs as often as you like and a whole one; and the bytes that a board sends
 -- after an accepted call are that plan.
 pub record Demand3 : Type 0 where
-  pub runs : Rattle.planner.specs.Demand.Demand3
+  pub runs : CutRuns
   pub bytes : BoardSendsPlan

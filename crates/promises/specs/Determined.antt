@@ -5,36 +5,33 @@ use mathlib.Core.Bool.{Bool}
 use mathlib.Core.List.{List}
 use mathlib.Core.Path.{_≡_}
 use Prim.Native.Nat.{ℕ}
-use Rattle.controller.specs.Bus.{whole, badTransfer, decided, resetDecided}
-use Rattle.controller.specs.Bus
+use Rattle.controller.specs.Bus.{whole, badTransfer, decided, resetDecided, Performs, PerformsIn}
 use Rattle.controller.specs.Cells.{lineLength, addressSet}
-use Rattle.controller.specs.Decision.{numberOf, isDone}
+use Rattle.controller.specs.Answers.{numberOf, isDone}
 use Rattle.controller.specs.Execute.{shortTime, longTime}
 use Rattle.controller.specs.Record.{sound}
 use Rattle.controller.specs.declared.cells.Counter.{Counter}
-use Rattle.controller.specs.declared.decision.Answer.{Answer}
+use Rattle.controller.specs.declared.answers.Answer.{Answer}
 use Rattle.controller.specs.declared.decision.Outcome.{Outcome}
 use Rattle.controller.specs.declared.loan.Told.{Told}
 use Rattle.controller.specs.declared.«record».Record.{Record}
 use Rattle.controller.specs.declared.«record».Function.{Function}
 use Rattle.drawing.specs.declared.drawing.Form.{Form}
 use Rattle.drawing.specs.Drawing.{Drawn}
-use Rattle.glass.specs.Geometry.{height}
-use Rattle.glass.specs.Picture.{Pictured}
-use Rattle.interface.specs.ControllerCalls.{resetCall, transferCall}
-use Rattle.interface.specs.ControllerCalls
+use Rattle.dots.specs.Geometry.{height}
+use Rattle.dots.specs.Picture.{Pictured}
+use Rattle.interface.specs.ControllerCalls.{Leaves, resetCall, transferCall}
 use Rattle.interface.specs.Filling.{Fills}
 use Rattle.interface.specs.LineCalls.{readCall, writeCall}
 use Rattle.interface.specs.PictureCalls.{pictureCall}
 use Rattle.interface.specs.PlanCalls.{planCall}
 use Rattle.lines.specs.Reading.{lineOf}
-use Rattle.lines.specs.Rows.{header, row, rowSize}
-use Rattle.lines.specs.Writing.{lineWriting, wanting}
-use Rattle.lines.specs.Writing
+use Rattle.lines.specs.ReportText.{header, row, rowSize}
+use Rattle.lines.specs.Writing.{Writes, lineWriting, wanting}
 use Rattle.lines.specs.declared.reader.Line.{Line}
 use Rattle.lines.specs.declared.writer.Written.{Written}
-use Rattle.planner.specs.Bus.{replyTo}
-use Rattle.planner.specs.declared.bus.Planned.{Planned}
+use Rattle.planner.specs.Call.{Plans, replyTo}
+use Rattle.planner.specs.declared.call.Planned.{Planned}
 use Rattle.planner.specs.declared.wish.Wish.{Wish}
 use Rattle.player.specs.Report.{playing}
 use Rattle.player.specs.Standing.{standing}
@@ -47,11 +44,11 @@ ExactlyOne {A} Fits = (a : A) × Fits a × ((b : A) → Fits b → b ≡ a)
 -- Every public function of every crate.
 pub record EachDetermined : Type 0 where
   pub transfer : (rec : Record) (mem : List ℕ) (kind byte wait : ℕ)
-      → ExactlyOne (λ (x : Outcome × List ℕ). Rattle.controller.specs.Bus.Meets (decided rec mem kind byte wait) mem (x .0) (x .1))
+      → ExactlyOne (λ (x : Outcome × List ℕ). Performs (decided rec mem kind byte wait) mem (x .0) (x .1))
   pub transfer-in : (rec : Record) (mem : List ℕ) (kind byte wait : ℕ)
-      → ExactlyOne (λ (x : Told × Record × List ℕ). Rattle.controller.specs.Bus.MeetsIn (decided rec mem kind byte wait) mem (x .0) (x .1) (x .2))
+      → ExactlyOne (λ (x : Told × Record × List ℕ). PerformsIn (decided rec mem kind byte wait) mem (x .0) (x .1) (x .2))
   pub reset : (rec : Record) (mem : List ℕ)
-      → ExactlyOne (λ (x : Outcome × List ℕ). Rattle.controller.specs.Bus.Meets (resetDecided rec mem) mem (x .0) (x .1))
+      → ExactlyOne (λ (x : Outcome × List ℕ). Performs (resetDecided rec mem) mem (x .0) (x .1))
   pub is-sound : (rec : Record) → ExactlyOne (λ (x : Bool). x ≡ sound rec)
   pub number : (answer : Answer) → ExactlyOne (λ (x : ℕ). x ≡ numberOf answer)
   pub is-whole : (mem : List ℕ) → ExactlyOne (λ (x : Bool). x ≡ whole mem)
@@ -65,21 +62,21 @@ pub record EachDetermined : Type 0 where
       → ExactlyOne (λ (x : Answer × List ℕ). Pictured rec mem columns lines lit out (x .0) (x .1))
   pub rows-of : (function : Function) → ExactlyOne (λ (x : ℕ). x ≡ height function)
   pub plan : (wish : Wish) (marks values out : List ℕ)
-      → ExactlyOne (λ (x : Planned × List ℕ). Rattle.planner.specs.Bus.Meets (replyTo wish marks values out) out (x .0) (x .1))
+      → ExactlyOne (λ (x : Planned × List ℕ). Plans (replyTo wish marks values out) out (x .0) (x .1))
   pub read-line : (text : List ℕ) → ExactlyOne (λ (x : Line). x ≡ lineOf text)
   pub write-line : (kind byte wait : ℕ) (out : List ℕ)
-      → ExactlyOne (λ (x : Written × List ℕ). Rattle.lines.specs.Writing.Meets (lineWriting kind byte wait out) out (x .0) (x .1))
+      → ExactlyOne (λ (x : Written × List ℕ). Writes (lineWriting kind byte wait out) out (x .0) (x .1))
   pub write-row : (number answer byte busy : ℕ) (out : List ℕ)
-      → ExactlyOne (λ (x : Written × List ℕ). Rattle.lines.specs.Writing.Meets (wanting rowSize (row number answer byte busy) out) out (x .0) (x .1))
-  pub write-header : (out : List ℕ) → ExactlyOne (λ (x : Written × List ℕ). Rattle.lines.specs.Writing.Meets (wanting 20 header out) out (x .0) (x .1))
-  pub play : (text out : List ℕ) → ExactlyOne (λ (x : Written × List ℕ). Rattle.lines.specs.Writing.Meets (playing text out) out (x .0) (x .1))
+      → ExactlyOne (λ (x : Written × List ℕ). Writes (wanting rowSize (row number answer byte busy) out) out (x .0) (x .1))
+  pub write-header : (out : List ℕ) → ExactlyOne (λ (x : Written × List ℕ). Writes (wanting 20 header out) out (x .0) (x .1))
+  pub play : (text out : List ℕ) → ExactlyOne (λ (x : Written × List ℕ). Writes (playing text out) out (x .0) (x .1))
   pub play-through : (text : List ℕ) → ExactlyOne (λ (x : Standing). x ≡ standing text)
   pub draw : (form : Form) (rec : Record) (mem : List ℕ) (columns lines : ℕ) (lit : Bool) (out : List ℕ)
       → ExactlyOne (λ (x : Written × List ℕ). Drawn form rec mem columns lines lit out (x .0) (x .1))
   pub yaropesk-reset : (bytes mem : List ℕ)
-      → ExactlyOne (λ (x : ℕ × List ℕ × List ℕ). Rattle.interface.specs.ControllerCalls.Meets (resetCall bytes mem) (x .0) (x .1) (x .2))
+      → ExactlyOne (λ (x : ℕ × List ℕ × List ℕ). Leaves (resetCall bytes mem) (x .0) (x .1) (x .2))
   pub yaropesk-transfer : (bytes mem : List ℕ) (kind byte wait : ℕ)
-      → ExactlyOne (λ (x : ℕ × List ℕ × List ℕ). Rattle.interface.specs.ControllerCalls.Meets (transferCall bytes mem kind byte wait) (x .0) (x .1) (x .2))
+      → ExactlyOne (λ (x : ℕ × List ℕ × List ℕ). Leaves (transferCall bytes mem kind byte wait) (x .0) (x .1) (x .2))
   pub yaropesk-picture : (bytes mem : List ℕ) (columns lines lit : ℕ) (out : List ℕ)
       → ExactlyOne (λ (x : ℕ × List ℕ). Fills (pictureCall bytes mem columns lines lit out) (x .0) (x .1))
   pub yaropesk-plan : (wish marks values out : List ℕ)

@@ -32,7 +32,7 @@ fn plain() -> Record {
 fn shape_of(code: u8) -> [u8; 8] {
     let memory = [code; 144];
     let mut shape = [0u8; 8];
-    glass::picture(plain(), &memory, 1, 1, false, &mut shape);
+    dots::picture(plain(), &memory, 1, 1, false, &mut shape);
     shape
 }
 

@@ -20,8 +20,9 @@ use Rattle.controller.specs.declared.instruction.Instruction.{Instructio
 use Rattle.controller.specs.declared.instruction.Instruction.the-variants.{Nothing, Clear, Home, SetEntry, SetControl, MoveCursor, ShiftDisplay, SetFunction, PatternAddress, DisplayAddress}
 use Rattle.controller.specs.declared.«record».Record.{Record}
 use Rattle.controller.specs.Cells.{stepped, cellOfAdd}
-use Rattle.controller.specs.Execute.{shortTime, longTime, cursorAt, shifted, addressed, executed, carried, written, readOut, completed}
+use Rattle.controller.specs.Execute.{shortTime, longTime, cursorAt, addressed, executed, movedOn, carried, written, readOut, completed}
 use Rattle.controller.specs.Instruction.{decoded, bit}
+use Rattle.controller.specs.Record.{withShift}
 
 -- the short time is the shorter
 pub short-long : shortTime ≤ longTime
@@ -51,16 +52,17 @@ executed-half mem (SetFunction wide function) rec = refl
 executed-half mem (PatternAddress acg) rec = refl
 executed-half mem (DisplayAddress add) rec = addressed-half mem (cellOfAdd (rec .function .n) add) rec
 
-carried-half : (counter : Counter) (rec : Record) → carried counter rec .half ≡ rec .half
+-- what no shift alters is as it was after the display has followed
+pub carried-keeps : {A : Type 0} (f : Record → A) (counter : Counter) (rec : Record) → ((shift : ℕ) → f (withShift shift rec) ≡ f rec)
+    → f (carried counter rec) ≡ f rec
 unfolding carried
-carried-half (Display cell) rec =
-    cond-elim (λ (r : Record). r .half ≡ rec .half) (rec .entry .s) (shifted (rec .entry .id) rec) rec (λ _. refl) (λ _. refl)
-carried-half (Pattern cell) rec = refl
+carried-keeps f (Display cell) rec same = cond-elim (λ (r : Record). f r ≡ f rec) (rec .entry .s) _ _ (λ _. same _) (λ _. refl)
+carried-keeps f (Pattern cell) rec same = refl
 
 pub completed-half : (mem : List ℕ) (t : Transfer) (rec : Record) → completed mem t rec .rec .half ≡ rec .half
 unfolding completed written readOut
 completed-half mem (Instruct byte) rec = executed-half mem (decoded byte) rec
-completed-half mem (Write byte) rec = carried-half (rec .counter) rec
+completed-half mem (Write byte) rec = carried-keeps (λ r. r .half) (rec .counter) (movedOn rec) (λ _. refl)
 completed-half mem (Status byte) rec = refl
 completed-half mem (Read byte) rec = refl
 

@@ -28,10 +28,10 @@ use Rattle.controller.specs.declared.«record».Record.{Record}
 use Rattle.controller.specs.Bus.{decided, ordered, resetDecided, whole, badTransfer, mustWait, noHalf}
 use Rattle.controller.specs.Cells.{onCell, stepped, wrapped, cellOfAdd, cellOfAcg, placeOf, Within}
 use Rattle.controller.specs.Decision.{done, refused, Fits}
-use Rattle.controller.specs.Execute.{shortTime, longTime, cursorAt, shifted, addressed, executed, carried, written, readOut, completed, statusOf, loaded, unloaded, homed, changed}
+use Rattle.controller.specs.Execute.{shortTime, longTime, cursorAt, shifted, addressed, executed, carried, written, readOut, completed, statusOf, placed, movedOn, loaded, homed, changed}
 use Rattle.controller.specs.Halves.{accepted, narrow, begun, firstHalf, secondHalf, ended}
 use Rattle.controller.specs.Instruction.{decoded}
-use Rattle.controller.specs.Record.{resetTime, halfSound, sound, waited, withHalf, withEntry, withControl, withFunction, withCounter, withRegister}
+use Rattle.controller.specs.Record.{resetTime, halfSound, sound, waited, withHalf, withEntry, withControl, withFunction, withRegister}
 
 -- the record left is sound, and the effect is within the memory
 pub record Kept (mem : List ℕ) (d : Decision) : Type 0 where
@@ -71,16 +71,20 @@ done-kept mem time effect rec within fits idle =
 changed-kept : (mem : List ℕ) (rec : Record) → Idle rec → Kept mem (changed rec)
 changed-kept mem rec idle = done-kept mem shortTime Keep rec short-within tt idle
 
--- the counter moved to a cell
-moved-idle : (mem : List ℕ) (counter : Counter) (rec : Record) → onCell counter ≡ true → Idle rec → Idle (loaded mem counter rec)
-moved-idle mem counter rec on idle = record { shift = idle .shift; counter = on; half = idle .half }
+-- the counter placed on a cell
+placed-idle : (mem : List ℕ) (counter : Counter) (rec : Record) → onCell counter ≡ true → Idle rec → Idle (loaded mem (placed counter rec))
+placed-idle mem counter rec on idle = record { shift = idle .shift; counter = on; half = idle .half }
+
+-- and moved on to the next
+moved-idle : (rec : Record) → Idle rec → Idle (movedOn rec)
+moved-idle rec idle = record { shift = idle .shift; counter = stepped-on (rec .entry .id) (rec .counter); half = idle .half }
 
 homed-idle : (rec : Record) → Idle rec → Idle (homed rec)
 homed-idle rec idle = record { shift = omega arith; counter = display-on 0 (omega arith); half = idle .half }
 
 cursor-idle : (mem : List ℕ) (counter : Counter) (rec : Record) → onCell counter ≡ true → Idle rec → Idle (cursorAt mem counter rec)
 unfolding cursorAt
-cursor-idle mem (Display cell) rec on idle = moved-idle mem (Display cell) rec on idle
+cursor-idle mem (Display cell) rec on idle = placed-idle mem (Display cell) rec on idle
 cursor-idle mem (Pattern cell) rec on idle = record { shift = idle .shift; counter = on; half = idle .half }
 
 shifted-idle : (up : Bool) (rec : Record) → Idle rec → Idle (shifted up rec)
@@ -90,7 +94,7 @@ shifted-idle up rec idle =
 addressed-kept : (mem : List ℕ) (named : Named) (rec : Record) → Within named → rec .busy ≤ resetTime → Idle rec → Kept mem (addressed mem named rec)
 unfolding addressed
 addressed-kept mem (Cell cell) rec within busy idle =
-    changed-kept mem (loaded mem (Display cell) rec) (moved-idle mem (Display cell) rec (display-on cell within) idle)
+    changed-kept mem (loaded mem (placed (Display cell) rec)) (placed-idle mem (Display cell) rec (display-on cell within) idle)
 addressed-kept mem Outside rec within busy idle = record { sound = idle-sound rec idle busy; fits = tt }
 
 executed-kept : (mem : List ℕ) (instruction : Instruction) (rec : Record) → length mem ≡ 144 → rec .busy ≤ resetTime → Idle rec
@@ -108,7 +112,8 @@ executed-kept mem (MoveCursor right) rec long busy idle =
 executed-kept mem (ShiftDisplay right) rec long busy idle = changed-kept mem (shifted (not right) rec) (shifted-idle (not right) rec idle)
 executed-kept mem (SetFunction wide function) rec long busy idle =
     changed-kept mem (withFunction wide function rec) (record { shift = idle .shift; counter = idle .counter; half = idle .half })
-executed-kept mem (PatternAddress acg) rec long busy idle = changed-kept mem (loaded mem (Pattern (cellOfAcg acg)) rec) (moved-idle mem (Pattern (cellOfAcg acg)) rec (acg-on acg) idle)
+executed-kept mem (PatternAddress acg) rec long busy idle =
+    changed-kept mem (loaded mem (placed (Pattern (cellOfAcg acg)) rec)) (placed-idle mem (Pattern (cellOfAcg acg)) rec (acg-on acg) idle)
 executed-kept mem (DisplayAddress add) rec long busy idle =
     addressed-kept mem (cellOfAdd (rec .function .n) add) rec (named-within (rec .function .n) add) busy idle
 
@@ -121,15 +126,16 @@ carried-idle (Pattern cell) rec idle = idle
 written-kept : (mem : List ℕ) (byte : ℕ) (rec : Record) → length mem ≡ 144 → Idle rec → Kept mem (written byte rec)
 unfolding written
 written-kept mem byte rec long idle =
-    let moved = carried-idle (rec .counter) rec idle in
-    done-kept mem shortTime _ (withRegister byte false (withCounter (stepped (rec .entry .id) (rec .counter)) (carried (rec .counter) rec))) short-within (omega (arith, place-below (rec .counter) (idle .counter)))
-    (record { shift = moved .shift; counter = stepped-on (rec .entry .id) (rec .counter); half = moved .half })
+    let carries = carried-idle (rec .counter) (movedOn rec) (moved-idle rec idle) in
+    done-kept mem shortTime _ (withRegister byte false (carried (rec .counter) (movedOn rec))) short-within
+    (omega (arith, place-below (rec .counter) (idle .counter)))
+    (record { shift = carries .shift; counter = carries .counter; half = carries .half })
 
 read-kept : (mem : List ℕ) (byte : ℕ) (rec : Record) → Idle rec → Kept mem (readOut mem byte rec)
 unfolding readOut
 read-kept mem byte rec idle =
     record {
-      sound = idle-sound _ (record { shift = idle .shift; counter = stepped-on (rec .entry .id) (rec .counter); half = idle .half }) short-within;
+      sound = let moved = moved-idle rec idle in idle-sound _ (record { shift = moved .shift; counter = moved .counter; half = moved .half }) short-within;
       fits = tt;
     }
 

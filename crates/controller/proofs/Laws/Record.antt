@@ -3,18 +3,18 @@
 use mathlib.Core.Bool.{Bool, true, false, not, _&&_}
 use mathlib.Core.List.{List}
 use mathlib.Core.Path.{_≡_, refl, ap, _∙_}
-use Prim.Native.Nat.{ℕ, _-_, _<_, _≤_}
+use Prim.Native.Nat.{ℕ, _-_, _<_, _≤_, zero-le}
 use native.Mathlib.Omega.{arith}
 use lib.Dec.{ltb, leb, eqb}
 use lib.ListN.{length}
 use borrow.Author.Tests.{ltb-true, leb-true, eqb-true, lt-ltb, le-leb, eq-eqb}
-use Rattle.controller.proofs.Laws.Choice.{and-left, and-right}
+use Rattle.controller.proofs.Laws.Choice.{cond-elim, and-left, and-right}
 use Rattle.controller.specs.declared.«record».Half.{Half}
 use Rattle.controller.specs.declared.«record».Half.the-variants.{Empty, InstructionWrite, DataWrite, StatusRead, DataRead}
 use Rattle.controller.specs.declared.«record».Record.{Record}
 use Rattle.controller.specs.Bus.{whole}
 use Rattle.controller.specs.Cells.{onCell}
-use Rattle.controller.specs.Record.{resetTime, halfSound, sound, waited, FourBits, Ready}
+use Rattle.controller.specs.Record.{resetTime, halfSound, sound, withBusy, busyOver, waited, FourBits, Ready}
 
 -- the four parts of soundness
 pub sound-shift : (rec : Record) → sound rec ≡ true → rec .shift < 80
@@ -49,8 +49,8 @@ half-four-bits wide busy (StatusRead byte) s = tt
 half-four-bits wide busy (DataRead byte) s = tt
 
 -- busy 0 stays 0
-zero-waited : (busy wait : ℕ) → eqb busy 0 ≡ true → eqb (busy - wait) 0 ≡ true
-zero-waited busy wait z = eq-eqb (busy - wait) 0 (omega (arith, eqb-true busy 0 z))
+zero-less : (less busy : ℕ) → less ≤ busy → eqb busy 0 ≡ true → eqb less 0 ≡ true
+zero-less less busy under z = eq-eqb less 0 (omega (arith, eqb-true busy 0 z))
 
 -- a joined test whose last part still passes
 and-again : (a b c d : Bool) → (c ≡ true → d ≡ true) → (a && (b && c)) ≡ true → (a && (b && d)) ≡ true
@@ -59,22 +59,36 @@ and-again true false c d again s = s
 and-again false b c d again s = s
 
 -- a half waits as well with less busy left
-pub half-waited : (wide : Bool) (busy wait : ℕ) (half : Half) → halfSound wide busy half ≡ true → halfSound wide (busy - wait) half ≡ true
+half-less : (wide : Bool) (less busy : ℕ) (half : Half) → less ≤ busy → halfSound wide busy half ≡ true → halfSound wide less half ≡ true
 unfolding halfSound
-half-waited wide busy wait Empty s = refl
-half-waited wide busy wait (InstructionWrite high) s =
-    and-again (not wide) (ltb high 16) (eqb busy 0) (eqb (busy - wait) 0) (zero-waited busy wait) s
-half-waited wide busy wait (DataWrite high) s =
-    and-again (not wide) (ltb high 16) (eqb busy 0) (eqb (busy - wait) 0) (zero-waited busy wait) s
-half-waited wide busy wait (StatusRead byte) s = s
-half-waited wide busy wait (DataRead byte) s =
-    and-again true (not wide) (eqb busy 0) (eqb (busy - wait) 0) (zero-waited busy wait) s
+half-less wide less busy Empty under s = refl
+half-less wide less busy (InstructionWrite high) under s = and-again (not wide) (ltb high 16) _ _ (zero-less less busy under) s
+half-less wide less busy (DataWrite high) under s = and-again (not wide) (ltb high 16) _ _ (zero-less less busy under) s
+half-less wide less busy (StatusRead byte) under s = s
+half-less wide less busy (DataRead byte) under s = and-again true (not wide) _ _ (zero-less less busy under) s
+
+less-sound : (less : ℕ) (rec : Record) → less ≤ rec .busy → sound rec ≡ true → sound (withBusy less rec) ≡ true
+less-sound less rec under s =
+    sound-of (withBusy less rec) (sound-shift rec s) (sound-counter rec s) (omega (arith, sound-busy rec s))
+    (half-less (rec .wide) less (rec .busy) (rec .half) under (sound-half rec s))
 
 -- waiting keeps a record sound
 pub waited-sound : (wait : ℕ) (rec : Record) → sound rec ≡ true → sound (waited wait rec) ≡ true
+unfolding waited
 waited-sound wait rec s =
-    sound-of (waited wait rec) (sound-shift rec s) (sound-counter rec s) (omega (arith, sound-busy rec s))
-    (half-waited (rec .wide) (rec .busy) wait (rec .half) (sound-half rec s))
+    cond-elim (λ (r : Record). sound r ≡ true) (leb (rec .busy) wait) _ _ (λ _. less-sound 0 rec zero-le s) (λ _. less-sound _ rec (omega arith) s)
+
+-- a wait as long as the busy time, or longer, ends it
+pub waited-over : (wait : ℕ) (rec : Record) → rec .busy ≤ wait → waited wait rec ≡ busyOver rec
+unfolding waited
+waited-over wait rec over = rw (le-leb (rec .busy) wait over)
+
+-- what neither the end of busy nor less of it alters is as it was after a wait
+pub waited-keeps : {A : Type 0} (f : Record → A) (wait : ℕ) (rec : Record) → f (busyOver rec) ≡ f rec
+    → ((less : ℕ) → f (withBusy less rec) ≡ f rec) → f (waited wait rec) ≡ f rec
+unfolding waited
+waited-keeps f wait rec over less =
+    cond-elim (λ (r : Record). f r ≡ f rec) (leb (rec .busy) wait) _ _ (λ _. over) (λ _. less (rec .busy - wait))
 
 pub whole-length : (mem : List ℕ) → whole mem ≡ true → length mem ≡ 144
 unfolding whole

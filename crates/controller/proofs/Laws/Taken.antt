@@ -6,8 +6,8 @@ use mathlib.Core.Path.{_≡_}
 use Prim.Native.Nat.{ℕ, _-_, _≤_}
 use native.Mathlib.Omega.{arith}
 use lib.ListN.{length}
-use borrow.Author.Tests.{le-ltb, eq-eqb}
-use Rattle.controller.proofs.Laws.Record.{sound-counter}
+use borrow.Author.Tests.{eq-eqb}
+use Rattle.controller.proofs.Laws.Record.{sound-counter, waited-over}
 use Rattle.controller.specs.declared.«record».Record.{Record}
 use Rattle.controller.specs.Bus.{decided, ordered, whole, badTransfer, mustWait}
 use Rattle.controller.specs.Halves.{accepted}
@@ -16,7 +16,7 @@ use Rattle.controller.specs.Record.{sound, waited}
 -- a wait as long as the busy time lets every kind in
 pub covered : (kind wait : ℕ) (rec : Record) → rec .busy ≤ wait → mustWait kind (waited wait rec) ≡ false
 unfolding mustWait
-covered kind wait rec over = simp (le-ltb 0 (rec .busy - wait) (omega arith), and-false)
+covered kind wait rec over = simp (waited-over wait rec over, and-false)
 
 pub taken : (rec : Record) (mem : List ℕ) (kind byte wait : ℕ) → sound rec ≡ true → length mem ≡ 144 → badTransfer kind byte ≡ false
     → mustWait kind (waited wait rec) ≡ false → decided rec mem kind byte wait ≡ accepted mem kind byte (waited wait rec)

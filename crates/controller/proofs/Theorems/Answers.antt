@@ -2,28 +2,30 @@
 -- Assumes nothing.
 use mathlib.Core.Bool.{Bool, true, false, cond, not, _&&_}
 use mathlib.Core.List.{List}
-use mathlib.Core.Path.{_≡_, refl, _∙_}
+use mathlib.Core.Path.{_≡_, refl, sym, _∙_}
 use Prim.Native.Nat.{ℕ, _-_}
+use native.Mathlib.Omega.{arith}
 use lib.Dec.{leb, eqb}
-use Rattle.controller.proofs.Laws.Choice.{cond-map}
+use Rattle.controller.proofs.Laws.Choice.{cond-elim, cond-map}
 use Rattle.controller.specs.declared.cells.Named.{Named}
 use Rattle.controller.specs.declared.cells.Named.the-variants.{Cell, Outside}
-use Rattle.controller.specs.declared.decision.Answer.{Answer}
+use Rattle.controller.specs.declared.answers.Answer.{Answer}
 use Rattle.controller.specs.declared.decision.Decision.{Decision}
 use Rattle.controller.specs.declared.execute.Transfer.{Transfer}
 use Rattle.controller.specs.declared.execute.Transfer.the-variants.{Instruct, Write, Status, Read}
 use Rattle.controller.specs.declared.instruction.Instruction.{Instruction}
 use Rattle.controller.specs.declared.instruction.Instruction.the-variants.{Nothing, Clear, Home, SetEntry, SetControl, MoveCursor, ShiftDisplay, SetFunction, PatternAddress, DisplayAddress}
-use Rattle.controller.specs.declared.decision.Answer.the-variants.{Done, NotWhole, StaleRead}
+use Rattle.controller.specs.declared.answers.Answer.the-variants.{Done, NotWhole, StaleRead}
 use Rattle.controller.specs.declared.decision.Effect.the-variants.{Blank}
 use Rattle.controller.proofs.Laws.Instruction.{Plain, decoded-address, decoded-plain}
-use Rattle.controller.proofs.Laws.Rows.{first, given}
+use Rattle.controller.proofs.Laws.Answers.{first, given}
 use Rattle.controller.specs.declared.«record».Half.{Half}
 use Rattle.controller.specs.declared.«record».Half.the-variants.{Empty, InstructionWrite, DataWrite, StatusRead, DataRead}
 use Rattle.controller.specs.declared.«record».Record.{Record}
 use Rattle.controller.specs.Bus.{decided, ordered, resetDecided, noHalf, whole, badTransfer, mustWait}
 use Rattle.controller.specs.Cells.{onCell, cellOfAdd}
-use Rattle.controller.specs.Decision.{numberOf, refused}
+use Rattle.controller.specs.Answers.{numberOf}
+use Rattle.controller.specs.Decision.{refused}
 use Rattle.controller.specs.Execute.{completed, executed, addressed, written, readOut}
 use Rattle.controller.specs.Halves.{accepted, narrow, begun, firstHalf, secondHalf, crossed}
 use Rattle.controller.specs.Instruction.{decoded}
@@ -36,7 +38,7 @@ numbered d = numberOf (d .answer)
 
 -- an instruction that is no display address is done
 plain-number : (mem : List ℕ) (i : Instruction) (rec : Record) → Plain i → numbered (executed mem i rec) ≡ 0
-unfolding executed numberOf
+unfolding executed
 plain-number mem Nothing rec p = refl
 plain-number mem Clear rec p = refl
 plain-number mem Home rec p = refl
@@ -49,7 +51,7 @@ plain-number mem (PatternAddress acg) rec p = refl
 plain-number mem (DisplayAddress add) rec p = absurd p
 
 addressed-number : (mem : List ℕ) (named : Named) (rec : Record) → numbered (addressed mem named rec) ≡ cond (isOutside named) 6 0
-unfolding addressed isOutside numberOf
+unfolding addressed isOutside
 addressed-number mem (Cell cell) rec = refl
 addressed-number mem Outside rec = refl
 
@@ -67,28 +69,27 @@ instruct-number mem byte rec = go (leb 0x80 byte) refl
     go false low = rw low (plain-number mem (decoded byte) rec (decoded-plain byte low))
 
 read-number : (fresh : Bool) → numberOf (cond fresh Done StaleRead) ≡ cond (not fresh) 7 0
-unfolding numberOf
 read-number true = refl
 read-number false = refl
 
 completed-number : (mem : List ℕ) (t : Transfer) (rec : Record)
     → numbered (completed mem t rec) ≡ cond (lacksCell rec t) 6 (cond (readsStale rec t) 7 0)
-unfolding completed lacksCell readsStale written readOut numberOf
+unfolding completed lacksCell readsStale written readOut
 completed-number mem (Instruct byte) rec = instruct-number mem byte rec
 completed-number mem (Write byte) rec = refl
 completed-number mem (Status byte) rec = refl
 completed-number mem (Read byte) rec = read-number (rec .fresh)
 
 -- 6 and 7 win over 8
-crossed-number : (same : Bool) (answer : Answer) (lacks stale : Bool) → numberOf answer ≡ cond lacks 6 (cond stale 7 0)
-    → numberOf (crossed same answer) ≡ cond lacks 6 (cond stale 7 (cond (not same) 8 0))
-unfolding crossed numberOf
-crossed-number true answer true stale e = e
-crossed-number true answer false true e = e
-crossed-number true answer false false e = e
-crossed-number false answer true stale e = rw e e
-crossed-number false answer false true e = rw e e
-crossed-number false answer false false e = rw e
+crossed-number : (other : Bool) (answer : Answer) (lacks stale : Bool) → numberOf answer ≡ cond lacks 6 (cond stale 7 0)
+    → numberOf (crossed other answer) ≡ cond lacks 6 (cond stale 7 (cond other 8 0))
+unfolding crossed
+crossed-number false answer true stale e = e
+crossed-number false answer false true e = e
+crossed-number false answer false false e = e
+crossed-number true answer true stale e = rw e e
+crossed-number true answer false true e = rw e e
+crossed-number true answer false false e = rw e
 
 without-half : (t : Transfer) (rec : Record) → (lacksCell (withHalf Empty rec) t ≡ lacksCell rec t) × (readsStale (withHalf Empty rec) t ≡ readsStale rec t)
 unfolding lacksCell readsStale
@@ -97,15 +98,15 @@ without-half (Write byte) rec = (refl, refl)
 without-half (Status byte) rec = (refl, refl)
 without-half (Read byte) rec = (refl, refl)
 
-second-number : (mem : List ℕ) (same : Bool) (t : Transfer) (rec : Record)
-    → numbered (secondHalf mem same t rec) ≡ cond (lacksCell rec t) 6 (cond (readsStale rec t) 7 (cond (not same) 8 0))
+second-number : (mem : List ℕ) (other : Bool) (t : Transfer) (rec : Record)
+    → numbered (secondHalf mem other t rec) ≡ cond (lacksCell rec t) 6 (cond (readsStale rec t) 7 (cond other 8 0))
 unfolding secondHalf
-second-number mem same t rec =
-    crossed-number same (completed mem t (withHalf Empty rec) .answer) (lacksCell rec t) (readsStale rec t)
+second-number mem other t rec =
+    crossed-number other (completed mem t (withHalf Empty rec) .answer) (lacksCell rec t) (readsStale rec t)
     (completed-number mem t (withHalf Empty rec) ∙ simp (without-half t rec .0, without-half t rec .1))
 
 first-number : (t : Transfer) (rec : Record) → numbered (firstHalf t rec) ≡ 5
-unfolding firstHalf numberOf
+unfolding firstHalf
 first-number (Instruct byte) rec = refl
 first-number (Write byte) rec = refl
 first-number (Status byte) rec = refl
@@ -132,7 +133,7 @@ accepted-number mem kind byte rec = go (rec .wide) (rec .half)
 
 decided-number : (rec : Record) (mem : List ℕ) (kind byte wait : ℕ)
     → numbered (decided rec mem kind byte wait) ≡ first (transferRows rec mem kind byte wait)
-unfolding decided ordered transferRows first numberOf
+unfolding decided ordered transferRows first
 decided-number rec mem kind byte wait =
     cond-map numbered (not (sound rec)) _ _ 1 _ (λ _. refl)
     (λ _. cond-map numbered (not (whole mem)) _ _ 2 _ (λ _. refl)
@@ -145,8 +146,34 @@ pub transfer-answers : TransferAnswers
 transfer-answers rec mem kind byte wait =
     given (numbered (decided rec mem kind byte wait)) (transferRows rec mem kind byte wait) (decided-number rec mem kind byte wait)
 
+-- no first half and no complete transfer is answered 4
+never-four : (first lacks stale other : Bool) → _≡_ {A = ℕ} (cond first 5 (cond lacks 6 (cond stale 7 (cond other 8 0)))) 4 → ⊥
+never-four true lacks stale other e = omega arith
+never-four false true stale other e = omega arith
+never-four false false true other e = omega arith
+never-four false false false true e = omega arith
+never-four false false false false e = omega arith
+
+accepted-never : (mem : List ℕ) (kind byte : ℕ) (rec : Record) → numbered (accepted mem kind byte rec) ≡ 4 → ⊥
+accepted-never mem kind byte rec e =
+    never-four (isFirst rec) (completeIs lacksCell kind byte rec) (completeIs readsStale kind byte rec) (isCrossed kind rec)
+    (sym (accepted-number mem kind byte rec) ∙ e)
+
+-- 4 is given only where the transfer must wait
+pub four-waits : (rec : Record) (mem : List ℕ) (kind byte wait : ℕ) → numbered (decided rec mem kind byte wait) ≡ 4
+    → mustWait kind (waited wait rec) ≡ true
+unfolding decided ordered
+four-waits rec mem kind byte wait =
+    let P : Decision → Type 0 = λ d. numbered d ≡ 4 → mustWait kind (waited wait rec) ≡ true in
+    cond-elim P (not (sound rec)) _ _ (λ _ e. absurd (omega arith))
+    (λ _. cond-elim P (not (whole mem)) _ _ (λ _ e. absurd (omega arith))
+    (λ _. cond-elim P (badTransfer kind byte) _ _ (λ _ e. absurd (omega arith))
+    (λ _. cond-elim P (mustWait kind (waited wait rec)) _ _ (λ waits _. waits)
+    (λ _. cond-elim P (not (onCell (rec .counter))) _ _ (λ _ e. absurd (omega arith))
+    (λ _ e. absurd (accepted-never mem kind byte (waited wait rec) e))))))
+
 reset-number : (rec : Record) (mem : List ℕ) → numbered (resetDecided rec mem) ≡ first (resetRows mem)
-unfolding resetDecided resetRows first numberOf
+unfolding resetDecided resetRows first
 reset-number rec mem = go (whole mem)
   where
     go : (w : Bool) → numbered (cond w (record { answer = Done; byte = 0; rec = resetRecord; effect = Blank }) (refused NotWhole rec)) ≡ cond (not w) 2 0

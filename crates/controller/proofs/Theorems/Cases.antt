@@ -3,23 +3,25 @@
 use mathlib.Core.Bool.{Bool, true, false, cond, not, and-false}
 use mathlib.Core.List.{List, [], _∷_}
 use mathlib.Core.Path.{_≡_, refl, sym, ap, _∙_}
-use Prim.Native.Nat.{ℕ, _-_, _≤_}
+use Prim.Native.Nat.{ℕ, _≤_, zero-le}
 use native.Mathlib.Nat.{sub-eq-zero-of-le}
 use native.Mathlib.Omega.{arith}
 use lib.Dec.{ltb, eqb}
 use lib.ListN.{length, getD, set, length-set}
 use lib.Seq.{getD-set-same}
 use borrow.Author.Tests.{eq-eqb}
+use Rattle.controller.proofs.Laws.Completed.{carried-keeps}
 use Rattle.controller.proofs.Laws.Cells.{place-below}
 use Rattle.controller.proofs.Laws.Memory.{blanked-length, performed-length}
 use Rattle.controller.proofs.Laws.Taken.{covered, taken}
 use Rattle.controller.proofs.Theorems.Sound.{transfer-keeps-sound}
-use Rattle.controller.proofs.Laws.Record.{sound-counter, waited-sound}
+use Rattle.controller.proofs.Laws.Record.{sound-counter, waited-over}
 use Rattle.controller.specs.declared.cells.Counter.{Counter}
 use Rattle.controller.specs.declared.cells.Counter.the-variants.{Display, Pattern}
-use Rattle.controller.specs.declared.decision.Answer.{Answer}
-use Rattle.controller.specs.declared.decision.Answer.the-variants.{Done, NoCell, Unsound, BadTransfer}
+use Rattle.controller.specs.declared.answers.Answer.{Answer}
+use Rattle.controller.specs.declared.answers.Answer.the-variants.{Done, NoCell, Unsound, BadTransfer}
 use Rattle.controller.specs.declared.decision.Decision.{Decision}
+use Rattle.controller.specs.declared.decision.Effect.the-variants.{Keep}
 use Rattle.controller.specs.declared.execute.Transfer.{Transfer}
 use Rattle.controller.specs.declared.execute.Transfer.the-variants.{Instruct, Write, Status, Read}
 use Rattle.controller.specs.declared.«record».Half.{Half}
@@ -27,26 +29,30 @@ use Rattle.controller.specs.declared.«record».Half.the-variants.{Empty
 use Rattle.controller.specs.declared.«record».Record.{Record}
 use Rattle.controller.specs.Bus.{decided, ordered, resetDecided, whole, badTransfer, mustWait, noHalf}
 use Rattle.controller.specs.Cases.{Waits, afterReset, statusRead, dataWrite, P1, WriteLeads, P2, P3, Answers, P4, P6, P8, P9, P10, sentIn11, P11}
-use Rattle.controller.specs.Cells.{onCell, wrapped, stepped, placeOf, byteAt, addressOf, addOfCell, acgOfCell, cellOfAdd, cellOfAcg}
-use Rattle.controller.specs.Decision.{numberOf, blanked, performed, done, refused}
+use Rattle.controller.specs.Cells.{onCell, wrapped, stepped, placeOf, byteUnder, addressOf, addOfCell, acgOfCell, cellOfAdd, cellOfAcg}
+use Rattle.controller.specs.Answers.{numberOf}
+use Rattle.controller.specs.Decision.{blanked, performed, done, refused}
 use Rattle.controller.specs.Execute.{shortTime, longTime, statusOf, completed, executed, addressed, carried, written, readOut, homed}
 use Rattle.controller.specs.Halves.{accepted, narrow, begun, firstHalf, firstTold, secondHalf, crossed}
 use Rattle.controller.specs.Instruction.{decoded, bit}
-use Rattle.controller.specs.Record.{resetRecord, resetTime, sound, halfSound, waited, withHalf}
-use Rattle.controller.specs.Runs.{State, Sent, Heard, decidedOf, after, toldOf, ran, heard}
+use Rattle.controller.specs.Record.{resetRecord, resetTime, sound, halfSound, waited, busyOver, withBusy, withHalf}
+use Rattle.controller.specs.declared.sent.Sent.{Sent}
+use Rattle.controller.specs.Runs.{State, Heard, decidedOf, after, toldOf, ran, heard}
 
 -- with its memory whole and its busy time covered, a sound controller takes every transfer that is well formed
 waits-taken : (rec : Record) (mem : List ℕ) (wide : Bool) (half : Half) (kind byte wait : ℕ) → Waits rec mem wide half wait → badTransfer kind byte ≡ false
-    → decided rec mem kind byte wait ≡ accepted mem kind byte (waited wait rec)
-waits-taken rec mem wide half kind byte wait w good = taken rec mem kind byte wait (w .sound) (w .whole) good (covered kind wait rec (w .over))
+    → decided rec mem kind byte wait ≡ accepted mem kind byte (busyOver rec)
+waits-taken rec mem wide half kind byte wait w good =
+    taken rec mem kind byte wait (w .sound) (w .whole) good (covered kind wait rec (w .over))
+    ∙ ap (accepted mem kind byte) (waited-over wait rec (w .over))
 
 pub taken-wide : (rec : Record) (mem : List ℕ) (half : Half) (kind byte wait : ℕ) → Waits rec mem true half wait → badTransfer kind byte ≡ false
-    → decided rec mem kind byte wait ≡ completed mem (begun kind byte (waited wait rec)) (waited wait rec)
+    → decided rec mem kind byte wait ≡ completed mem (begun kind byte (busyOver rec)) (busyOver rec)
 unfolding accepted
 taken-wide rec mem half kind byte wait w good = waits-taken rec mem true half kind byte wait w good ∙ rw (w .width)
 
 pub taken-narrow : (rec : Record) (mem : List ℕ) (half : Half) (kind byte wait : ℕ) → Waits rec mem false half wait → badTransfer kind byte ≡ false
-    → decided rec mem kind byte wait ≡ narrow mem kind byte half (waited wait rec)
+    → decided rec mem kind byte wait ≡ narrow mem kind byte half (busyOver rec)
 unfolding accepted
 taken-narrow rec mem half kind byte wait w good = waits-taken rec mem false half kind byte wait w good ∙ rw (w .width, w .holds)
 
@@ -55,23 +61,25 @@ reset-state : (rec : Record) (mem : List ℕ) → length mem ≡ 144 → afterRe
 unfolding resetDecided whole performed
 reset-state rec mem long = rw (eq-eqb (length mem) 144 long)
 
-status-told : (mem : List ℕ) (wait : ℕ) → length mem ≡ 144 → decided resetRecord mem 2 0 wait .byte ≡ statusOf (waited wait resetRecord)
+status-told : (mem : List ℕ) (wait less : ℕ) → length mem ≡ 144 → waited wait resetRecord ≡ withBusy less resetRecord
+    → decided resetRecord mem 2 0 wait .byte ≡ statusOf (withBusy less resetRecord)
 unfolding decided ordered whole sound halfSound onCell resetRecord resetTime badTransfer mustWait noHalf accepted begun completed
-status-told mem wait long = simp (eq-eqb (length mem) 144 long, and-false)
+status-told mem wait less long is = simp (eq-eqb (length mem) 144 long, is, and-false)
 
 pub p1 : P1
-unfolding statusOf addressOf addOfCell resetRecord resetTime
+unfolding statusOf addressOf addOfCell resetRecord resetTime waited
 p1 rec mem long =
-    let told : (wait : ℕ) → decidedOf (afterReset rec mem) (statusRead wait) .byte ≡ statusOf (waited wait resetRecord) =
-    λ wait. ap (λ (s : State). decidedOf s (statusRead wait) .byte) (reset-state rec mem long)
-    ∙ status-told (blanked mem) wait (blanked-length mem long) in
-    (told 9999, told 10000)
+    let told : (wait less : ℕ) → waited wait resetRecord ≡ withBusy less resetRecord
+    → decidedOf (afterReset rec mem) (statusRead wait) .byte ≡ statusOf (withBusy less resetRecord) =
+    λ wait less is. ap (λ (s : State). decidedOf s (statusRead wait) .byte) (reset-state rec mem long)
+    ∙ status-told (blanked mem) wait less (blanked-length mem long) is in
+    (told 9999 1 refl, told 10000 0 refl)
 
 write-leads : (n : Bool) (counter : Counter) (from : ℕ) (next : Counter) (to : ℕ) → addressOf n counter ≡ from → stepped true counter ≡ next
     → addressOf n next ≡ to → WriteLeads n counter from next to
 unfolding badTransfer begun completed written
 write-leads n counter from next to at steps there rec mem byte wait w lines up place =
-    (at, ap (λ (d : Decision). d .rec .counter) (taken-wide rec mem Empty 1 byte wait w refl) ∙ simp (up, place) steps, there)
+    (at, ap (λ (d : Decision). d .rec .counter) (taken-wide rec mem Empty 1 byte wait w refl) ∙ carried-keeps (λ r. r .counter) _ _ (λ _. refl) ∙ simp (up, place) steps, there)
 
 pub p2 : P2
 unfolding addressOf addOfCell stepped wrapped
@@ -90,7 +98,7 @@ answers : (n : Bool) (byte : ℕ) (answer : Answer) → ((mem : List ℕ) (rec :
     → Answers n byte answer
 unfolding badTransfer begun completed
 answers n byte answer told rec mem wait w lines =
-    ap (λ (d : Decision). d .answer) (taken-wide rec mem Empty 0 byte wait w refl) ∙ told mem (waited wait rec) lines
+    ap (λ (d : Decision). d .answer) (taken-wide rec mem Empty 0 byte wait w refl) ∙ told mem (busyOver rec) lines
 
 pub p4 : P4
 unfolding executed decoded addressed cellOfAdd
@@ -106,7 +114,9 @@ p4 = (
 
 pub p9 : P9
 unfolding badTransfer narrow secondHalf completed executed decoded bit crossed
-p9 rec mem wait w = taken-narrow rec mem (InstructionWrite 0) 0 0x30 wait w refl
+p9 rec mem wait w =
+    taken-narrow rec mem (InstructionWrite 0) 0 0x30 wait w refl
+    ∙ ap (λ (r : Record). done longTime Keep (homed (withHalf Empty r))) (sym (waited-over wait rec (w .over)))
 
 -- a stored byte is there
 stored : (mem : List ℕ) (rec : Record) (byte : ℕ) → length mem ≡ 144 → sound rec ≡ true → getD (set mem (placeOf (rec .counter)) byte) (placeOf (rec .counter)) 0 ≡ byte
@@ -114,21 +124,21 @@ stored mem rec byte long s =
     getD-set-same mem (placeOf (rec .counter)) byte 0 (omega (arith, place-below (rec .counter) (sound-counter rec s)))
 
 pub p10 : P10
-unfolding badTransfer narrow secondHalf completed written crossed numberOf performed
+unfolding badTransfer narrow secondHalf completed written crossed performed
 p10 rec mem wait w =
-    let d : decided rec mem 0 0x30 wait ≡ narrow mem 0 0x30 (DataWrite 4) (waited wait rec) = taken-narrow rec mem (DataWrite 4) 0 0x30 wait w refl in (
+    let d : decided rec mem 0 0x30 wait ≡ narrow mem 0 0x30 (DataWrite 4) (busyOver rec) = taken-narrow rec mem (DataWrite 4) 0 0x30 wait w refl in (
       ap (λ (x : Decision). x .answer) d,
       ap (λ (x : Decision). getD (performed (x .effect) mem) (placeOf (rec .counter)) 0) d ∙ stored mem rec 0x43 (w .whole) (w .sound),
     )
 
 -- the first of P8's halves, and the controller that it leaves
 p8-first : (rec : Record) (mem : List ℕ) (wait : ℕ) → Waits rec mem false Empty wait
-    → decided rec mem 1 0x40 wait ≡ firstTold 0 (DataWrite 4) (waited wait rec)
+    → decided rec mem 1 0x40 wait ≡ firstTold 0 (DataWrite 4) (busyOver rec)
 unfolding badTransfer narrow begun firstHalf
 p8-first rec mem wait w = taken-narrow rec mem Empty 1 0x40 wait w refl
 
 p8-between : (rec : Record) (mem : List ℕ) (wait later : ℕ) → Waits rec mem false Empty wait
-    → Waits (withHalf (DataWrite 4) (waited wait rec)) mem false (DataWrite 4) later
+    → Waits (withHalf (DataWrite 4) (busyOver rec)) mem false (DataWrite 4) later
 p8-between rec mem wait later w =
     record {
       sound =
@@ -137,18 +147,18 @@ p8-between rec mem wait later w =
       whole = w .whole;
       width = w .width;
       holds = refl;
-      over = omega (arith, w .over);
+      over = zero-le;
     }
 
 -- the second half, from there
 p8-second : (rec : Record) (mem : List ℕ) (wait later : ℕ) → Waits rec mem false Empty wait
-    → decided (withHalf (DataWrite 4) (waited wait rec)) mem 1 0x10 later
-    ≡ narrow mem 1 0x10 (DataWrite 4) (waited later (withHalf (DataWrite 4) (waited wait rec)))
+    → decided (withHalf (DataWrite 4) (busyOver rec)) mem 1 0x10 later
+    ≡ narrow mem 1 0x10 (DataWrite 4) (busyOver (withHalf (DataWrite 4) (busyOver rec)))
 unfolding badTransfer
 p8-second rec mem wait later w = taken-narrow _ mem (DataWrite 4) 1 0x10 later (p8-between rec mem wait later w) refl
 
 pub p8 : P8
-unfolding narrow secondHalf completed written crossed numberOf performed ran
+unfolding narrow secondHalf completed written crossed performed ran
 p8 rec mem wait later w =
     let s : State = record { rec = rec; mem = mem } in
     let first = p8-first rec mem wait w in
@@ -185,5 +195,5 @@ heard-open s (t ∷ ts) long =
     ∙ ap (λ (l : List Heard). toldOf d ∷ l) (heard-open (after s d) ts (performed-length (d .effect) (s .mem) long))
 
 pub p11 : P11
-unfolding openHeard openly ordered sound halfSound onCell resetRecord resetTime badTransfer mustWait noHalf accepted begun completed statusOf addressOf addOfCell executed decoded bit written carried stepped wrapped placeOf readOut shortTime performed numberOf
+unfolding openHeard openly ordered waited sound halfSound onCell resetRecord resetTime badTransfer mustWait noHalf accepted begun completed statusOf addressOf addOfCell executed decoded bit written carried stepped wrapped placeOf readOut shortTime performed
 p11 rec mem long = ap (λ (s : State). heard s sentIn11) (reset-state rec mem long) ∙ heard-open _ sentIn11 (blanked-length mem long)

@@ -1,6 +1,6 @@
 -- What a refusal leaves: byte 00h, the memory as found, and the record as its row says.
 -- Assumes nothing.
-use mathlib.Core.Bool.{Bool, true, false, cond, not, false≢true}
+use mathlib.Core.Bool.{Bool, true, false, cond, not, _&&_, false≢true}
 use mathlib.Core.List.{List}
 use mathlib.Core.Path.{_≡_, refl, sym, ap, _∙_}
 use Prim.Native.Nat.{ℕ, _-_}
@@ -12,8 +12,8 @@ use Rattle.controller.proofs.Laws.Kept.{wide-none}
 use Rattle.controller.proofs.Laws.Record.{sound-half, waited-sound}
 use Rattle.controller.specs.declared.cells.Named.{Named}
 use Rattle.controller.specs.declared.cells.Named.the-variants.{Cell, Outside}
-use Rattle.controller.specs.declared.decision.Answer.{Answer}
-use Rattle.controller.specs.declared.decision.Answer.the-variants.{Done, Unsound, NotWhole, BadTransfer, Busy, FirstHalf, NoCell, StaleRead, CrossedHalves, CounterOff, BadSize, OutputShort, BadLine, NotWish}
+use Rattle.controller.specs.declared.answers.Answer.{Answer}
+use Rattle.controller.specs.declared.answers.Answer.the-variants.{Done, NotWhole, NoCell, StaleRead}
 use Rattle.controller.specs.declared.decision.Decision.{Decision}
 use Rattle.controller.specs.declared.decision.Effect.the-variants.{Blank}
 use Rattle.controller.specs.declared.execute.Transfer.{Transfer}
@@ -25,7 +25,8 @@ use Rattle.controller.specs.declared.«record».Half.the-variants.{Empty
 use Rattle.controller.specs.declared.«record».Record.{Record}
 use Rattle.controller.specs.Bus.{decided, ordered, resetDecided, whole, badTransfer, mustWait}
 use Rattle.controller.specs.Cells.{onCell, cellOfAdd}
-use Rattle.controller.specs.Decision.{numberOf, isRefusal, refused}
+use Rattle.controller.specs.Answers.{numberOf, isDone, isRefusal}
+use Rattle.controller.specs.Decision.{refused}
 use Rattle.controller.specs.Execute.{completed, executed, addressed, written, readOut}
 use Rattle.controller.specs.Halves.{accepted, narrow, begun, firstHalf, secondHalf, crossed, ended}
 use Rattle.controller.specs.Instruction.{decoded}
@@ -78,35 +79,22 @@ completed-only mem (Status byte) rec r = absurd (false≢true r)
 completed-only mem (Read byte) rec r = absurd (false≢true (sym (read-never (rec .fresh)) ∙ r))
 
 -- crossing makes no refusal
-crossed-refusal : (same : Bool) (answer : Answer) → isRefusal (crossed same answer) ≡ true → isRefusal answer ≡ true
-unfolding crossed isRefusal numberOf
-crossed-refusal true answer r = r
-crossed-refusal false Done r = absurd (false≢true r)
-crossed-refusal false Unsound r = r
-crossed-refusal false NotWhole r = r
-crossed-refusal false BadTransfer r = r
-crossed-refusal false Busy r = r
-crossed-refusal false FirstHalf r = r
-crossed-refusal false NoCell r = r
-crossed-refusal false StaleRead r = r
-crossed-refusal false CrossedHalves r = r
-crossed-refusal false CounterOff r = r
-crossed-refusal false BadSize r = r
-crossed-refusal false OutputShort r = r
-crossed-refusal false BadLine r = r
-crossed-refusal false NotWish r = r
+crossed-refusal : (other : Bool) (answer : Answer) → isRefusal (crossed other answer) ≡ true → isRefusal answer ≡ true
+unfolding crossed isRefusal
+crossed-refusal other answer =
+    cond-elim (λ (a : Answer). isRefusal a ≡ true → isRefusal answer ≡ true) (other && isDone answer) _ _ (λ _ r. absurd (false≢true r)) (λ _ r. r)
 
 -- a 6 stays a 6
-ended-six : (same : Bool) (rec : Record) → ended same (refused NoCell rec) ≡ refused NoCell rec
-unfolding crossed numberOf
+ended-six : (other : Bool) (rec : Record) → ended other (refused NoCell rec) ≡ refused NoCell rec
+unfolding crossed
 ended-six true rec = refl
 ended-six false rec = refl
 
-second-only : (mem : List ℕ) (same : Bool) (t : Transfer) (rec : Record) → OnlySix (withHalf Empty rec) (secondHalf mem same t rec)
+second-only : (mem : List ℕ) (other : Bool) (t : Transfer) (rec : Record) → OnlySix (withHalf Empty rec) (secondHalf mem other t rec)
 unfolding secondHalf
-second-only mem same t rec r =
+second-only mem other t rec r =
     let d = completed mem t (withHalf Empty rec) in
-    ap (ended same) (completed-only mem t (withHalf Empty rec) (crossed-refusal same (d .answer) r)) ∙ ended-six same (withHalf Empty rec)
+    ap (ended other) (completed-only mem t (withHalf Empty rec) (crossed-refusal other (d .answer) r)) ∙ ended-six other (withHalf Empty rec)
 
 first-never : (t : Transfer) (rec : Record) → isRefusal (firstHalf t rec .answer) ≡ false
 unfolding firstHalf isRefusal
@@ -136,11 +124,11 @@ accepted-only mem kind byte rec s =
 
 -- a 6 leaves what its row says
 six-leaves : (wait : ℕ) (rec : Record) (d : Decision) → OnlySix (withHalf Empty (waited wait rec)) d → LeavesAsSaid wait rec d
-unfolding left numberOf
+unfolding left
 six-leaves wait rec d only r = rw (only r) refl
 
 pub transfer-refusals : TransferRefusals
-unfolding decided ordered left numberOf
+unfolding decided ordered left
 transfer-refusals rec mem kind byte wait =
     let P : Decision → Type 0 = LeavesAsSaid wait rec in
     cond-elim P (not (sound rec)) _ _ (λ _ _. refl)

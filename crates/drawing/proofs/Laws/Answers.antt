@@ -8,21 +8,21 @@ use native.Mathlib.Omega.{arith}
 use borrow.Author.Tests.{le-ltb}
 use lib.Dec.{eqb, ltb}
 use lib.ListN.{length}
-use Rattle.controller.specs.declared.decision.Answer.{Answer}
-use Rattle.controller.specs.declared.decision.Answer.the-variants.{Done, Unsound, NotWhole, BadSize, OutputShort}
+use Rattle.controller.specs.declared.answers.Answer.{Answer}
+use Rattle.controller.specs.declared.answers.Answer.the-variants.{Done, Unsound, NotWhole, BadSize, OutputShort}
 use Rattle.controller.specs.declared.«record».Record.{Record}
 use Rattle.controller.specs.Bus.{whole}
-use Rattle.controller.specs.Decision.{isRefusal, numberOf}
+use Rattle.controller.specs.Answers.{isRefusal, numberOf}
 use Rattle.controller.specs.Record.{sound}
 use Rattle.controller.proofs.Laws.Record.{sound-shift}
-use Rattle.glass.specs.Geometry.{fitsGlass, height}
-use Rattle.glass.specs.Picture.{answered}
-use Rattle.glass.proofs.Answers.{glass-columns, glass-lines, size-few}
-use Rattle.glass.proofs.Places.{height-most}
+use Rattle.dots.specs.Geometry.{fitsGlass, height}
+use Rattle.dots.specs.Picture.{answered}
+use Rattle.dots.proofs.Answers.{glass-columns, glass-lines, size-few}
+use Rattle.dots.proofs.Places.{height-most}
 use Rattle.lines.specs.declared.writer.Written.{Written}
 use Rattle.drawing.specs.declared.drawing.Form.{Form}
 use Rattle.drawing.specs.Grid.{Small}
-use Rattle.drawing.specs.Drawing.{Drawn, Taken, answering, dotsOf, lengthOf, sizeFor, telling}
+use Rattle.drawing.specs.Drawing.{Drawn, DrawnTaken, answering, dotsOf, lengthOf, sizeFor, telling}
 
 -- the picture's answer, by its three tests
 pub picture-answer : (rec : Record) (mem : List ℕ) (columns lines : ℕ) (s w f : Bool) → sound rec ≡ s → whole mem ≡ w → fitsGlass columns lines ≡ f
@@ -41,7 +41,6 @@ pub record Seen (rec : Record) (mem : List ℕ) (columns lines : ℕ) : Type 0 w
 
 -- done tells so
 pub seen : (rec : Record) (mem : List ℕ) (columns lines : ℕ) → eqb (numberOf (answered rec mem columns lines 640)) 0 ≡ true → Seen rec mem columns lines
-unfolding numberOf
 seen rec mem columns lines done = go (sound rec) (whole mem) (fitsGlass columns lines) refl refl refl
   where
     go : (s w f : Bool) → sound rec ≡ s → whole mem ≡ w → fitsGlass columns lines ≡ f → Seen rec mem columns lines
@@ -63,7 +62,7 @@ module _ (form : Form) (rec : Record) (mem : List ℕ) (columns lines : ℕ) (li
   -- a picture that is refused: so is the drawing, with the same answer
   pub refused-drawn : eqb (numberOf (answered rec mem columns lines 640)) 0 ≡ false
       → Drawn form rec mem columns lines lit before (record { answer = answered rec mem columns lines 640; length = 0 }) before
-  unfolding answering isRefusal numberOf
+  unfolding answering isRefusal
   refused-drawn not-done = go (sound rec) (whole mem) (fitsGlass columns lines) refl refl refl
     where
       go : (s w f : Bool) → sound rec ≡ s → whole mem ≡ w → fitsGlass columns lines ≡ f
@@ -75,7 +74,7 @@ module _ (form : Form) (rec : Record) (mem : List ℕ) (columns lines : ℕ) (li
 
   -- a picture that was taken: 11 is left to be given
   pub taken-drawn : {returned : Written} {after : List ℕ} → Seen rec mem columns lines
-      → Taken form (dotsOf rec mem columns lines lit) mem rec (sizeFor rec columns lines) before returned after
+      → DrawnTaken form (dotsOf rec mem columns lines lit) mem rec (sizeFor rec columns lines) before returned after
       → Drawn form rec mem columns lines lit before returned after
   unfolding answering
   taken-drawn {returned} {after} s taken =

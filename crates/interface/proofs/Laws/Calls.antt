@@ -6,20 +6,21 @@ use mathlib.Core.Path.{_≡_, refl, ap, subst, _∙_}
 use Prim.Native.Nat.{ℕ, _+_, _*_}
 use lib.ListN.{length}
 use borrow.Author.Tests.{eqb-true}
-use Rattle.controller.specs.declared.decision.Answer.the-variants.{Done}
+use Rattle.controller.specs.declared.answers.Answer.the-variants.{Done}
 use Rattle.controller.specs.declared.decision.Decision.{Decision}
 use Rattle.controller.specs.declared.decision.Outcome.{Outcome}
 use Rattle.controller.specs.declared.«record».Record.{Record}
 use Rattle.controller.specs.Bus.{decided, resetDecided, whole}
 use Rattle.controller.specs.Bus as Bus
-use Rattle.controller.specs.Decision.{numberOf, performed, outcomeOf}
+use Rattle.controller.specs.Answers.{numberOf}
+use Rattle.controller.specs.Decision.{performed, outcomeOf}
 use Rattle.interface.specs.declared.record_bytes.ReadRecord.the-variants.{Is, Broken}
-use Rattle.interface.specs.ControllerCalls.{Left, Meets, callOf, transferFrom, transferCall}
+use Rattle.interface.specs.ControllerCalls.{Left, Leaves, callOf, transferFrom, transferCall}
 use Rattle.interface.specs.RecordBytes.{recordBytes, recordFrom, isRecordLong, recordIn}
 
 -- an outcome that tells a decision, left in its bytes, and the effect performed
 pub left-meets : (d : Decision) (mem : List ℕ) (outcome : Outcome) {returned : ℕ} {bytes after : List ℕ}
-    → outcome ≡ outcomeOf d → Left outcome returned bytes → after ≡ performed (d .effect) mem → Meets (callOf d mem) returned bytes after
+    → outcome ≡ outcomeOf d → Left outcome returned bytes → after ≡ performed (d .effect) mem → Leaves (callOf d mem) returned bytes after
 left-meets d mem outcome told left done =
     record {
       told = left .told ∙ ap (λ (o : Outcome). numberOf (o .answer) + 256 * o .byte) told;
@@ -29,18 +30,18 @@ left-meets d mem outcome told left done =
 
 -- a reset from the record that was taken out of the bytes
 pub reset-meets : (bytes mem : List ℕ) (rec : Record) (outcome : Outcome) {returned : ℕ} {left after : List ℕ} → rec ≡ recordFrom bytes
-    → Bus.Meets (resetDecided rec mem) mem outcome after → Left outcome returned left → Meets (callOf (resetDecided (recordFrom bytes) mem) mem) returned left after
+    → Bus.Performs (resetDecided rec mem) mem outcome after → Left outcome returned left → Leaves (callOf (resetDecided (recordFrom bytes) mem) mem) returned left after
 reset-meets bytes mem rec outcome {returned} {left} {after} is met kept =
-    subst (λ (x : Record). Meets (callOf (resetDecided x mem) mem) returned left after) is (left-meets (resetDecided rec mem) mem outcome (met .told) kept (met .memory))
+    subst (λ (x : Record). Leaves (callOf (resetDecided x mem) mem) returned left after) is (left-meets (resetDecided rec mem) mem outcome (met .told) kept (met .memory))
 
 -- bytes that say no record
-pub broken-meets : (bytes mem : List ℕ) (kind byte wait : ℕ) → recordIn bytes ≡ Broken → Meets (transferCall bytes mem kind byte wait) 1 bytes mem
-unfolding transferFrom numberOf
+pub broken-meets : (bytes mem : List ℕ) (kind byte wait : ℕ) → recordIn bytes ≡ Broken → Leaves (transferCall bytes mem kind byte wait) 1 bytes mem
+unfolding transferFrom
 broken-meets bytes mem kind byte wait broken = rw broken (record { told = refl; rec = refl; memory = refl })
 
 -- bytes that say this record
 pub found-meets : (bytes mem : List ℕ) (kind byte wait : ℕ) (rec : Record) {returned : ℕ} {left after : List ℕ} → recordIn bytes ≡ Is rec
-    → Meets (callOf (decided rec mem kind byte wait) mem) returned left after → Meets (transferCall bytes mem kind byte wait) returned left after
+    → Leaves (callOf (decided rec mem kind byte wait) mem) returned left after → Leaves (transferCall bytes mem kind byte wait) returned left after
 unfolding transferFrom
 found-meets bytes mem kind byte wait rec found meets = rw found meets
 

@@ -8,13 +8,13 @@ use Prim.Native.Nat.{ℕ, _+_, _*_, _≤_}
 use native.Mathlib.Omega.{arith}
 use lib.Dec.{ltb}
 use lib.ListN.{length}
-use Rattle.controller.specs.declared.decision.Answer.{Answer}
-use Rattle.controller.specs.declared.decision.Answer.the-variants.{BadTransfer, OutputShort}
+use Rattle.controller.specs.declared.answers.Answer.{Answer}
+use Rattle.controller.specs.declared.answers.Answer.the-variants.{BadTransfer, OutputShort}
 use Rattle.controller.specs.declared.«record».Record.{Record}
 use Rattle.controller.specs.Bus.{badTransfer}
-use Rattle.controller.specs.Decision.{numberOf}
+use Rattle.controller.specs.Answers.{numberOf}
 use Rattle.controller.proofs.Laws.Choice.{cond-elim}
-use Rattle.glass.specs.Picture.{Pictured}
+use Rattle.dots.specs.Picture.{Pictured}
 use Rattle.lines.specs.declared.writer.Written.{Written}
 use Rattle.lines.specs.Line.{line, waitLimit}
 use Rattle.lines.specs.Writing.{Writing, lineWriting, refusing, wanting, writing}
@@ -39,12 +39,12 @@ drawn-fills rec mem columns lines lit out answer drawn told =
 -- bytes that say no record have no picture
 pub broken-fills : (bytes mem : List ℕ) (columns lines : ℕ) (lit : Bool) (out : List ℕ) → recordIn bytes ≡ Broken
     → Fills (pictureFrom (recordIn bytes) mem columns lines lit out) 1 out
-unfolding pictureFrom numberOf
+unfolding pictureFrom
 broken-fills bytes mem columns lines lit out broken = rw broken (record { told = refl; buffer = refl })
 
 -- a text that was written
 pub written-fills : (w : Writing) (out : List ℕ) (told : Written) {returned : ℕ} {after : List ℕ}
-    → Writing'.Meets w out told after → returned ≡ numberOf (told .answer) + 256 * told .length → Fills (fillingOf w out) returned after
+    → Writing'.Writes w out told after → returned ≡ numberOf (told .answer) + 256 * told .length → Fills (fillingOf w out) returned after
 written-fills w out told met is =
     record { told = is ∙ ap (λ (t : Written). numberOf (t .answer) + 256 * t .length) (met .told); buffer = met .buffer }
 
@@ -59,7 +59,7 @@ line-short kind byte wait out limit =
 
 -- and so is what it tells
 pub told-short : (kind byte wait : ℕ) (out : List ℕ) (told : Written) {after : List ℕ} → wait ≤ waitLimit
-    → Writing'.Meets (lineWriting kind byte wait out) out told after → told .length ≤ 468
+    → Writing'.Writes (lineWriting kind byte wait out) out told after → told .length ≤ 468
 told-short kind byte wait out told limit met =
     let same = ap (λ (t : Written). t .length) (met .told) in
     let short = line-short kind byte wait out limit in

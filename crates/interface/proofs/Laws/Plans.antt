@@ -8,14 +8,13 @@ use native.Mathlib.Omega.{arith}
 use lib.Dec.{ltb}
 use lib.ListN.{length}
 use borrow.Author.Tests.{not-false}
-use Rattle.controller.specs.declared.decision.Answer.the-variants.{Done, NotWhole, NotWish, OutputShort}
+use Rattle.controller.specs.declared.answers.Answer.the-variants.{Done, NotWhole, NotWish, OutputShort}
 use Rattle.controller.specs.Bus.{whole}
-use Rattle.controller.specs.Decision.{numberOf}
+use Rattle.controller.specs.Answers.{numberOf}
 use Rattle.controller.proofs.Laws.Choice.{cond-elim}
-use Rattle.planner.specs.declared.bus.Planned.{Planned}
+use Rattle.planner.specs.declared.call.Planned.{Planned}
 use Rattle.planner.specs.declared.wish.Wish.{Wish}
-use Rattle.planner.specs.Bus.{Reply, replyTo, turnedDown, wanted}
-use Rattle.planner.specs.Bus as Bus
+use Rattle.planner.specs.Call.{Plans, Reply, replyTo, turnedDown, wanted}
 use Rattle.planner.specs.Plan.{planOf}
 use Rattle.planner.specs.Wish.{isWish}
 use Rattle.planner.proofs.Laws.Count.{plan-bound}
@@ -39,7 +38,7 @@ reply-bound wish marks values out =
     (λ _. plan-bound wish marks values (not-false (isWish wish marks) is)))))
 
 -- and so is the count that is told
-pub count-bound : (wish : Wish) (marks values out : List ℕ) (told : Planned) {after : List ℕ} → Bus.Meets (replyTo wish marks values out) out told after
+pub count-bound : (wish : Wish) (marks values out : List ℕ) (told : Planned) {after : List ℕ} → Plans (replyTo wish marks values out) out told after
     → told .count ≤ 468
 count-bound wish marks values out told met =
     let same = ap (λ (t : Planned). t .count) (met .told) in
@@ -47,7 +46,7 @@ count-bound wish marks values out told met =
     omega arith
 
 -- a plan that was written
-pub planned-fills : (reply : Reply) (out : List ℕ) (told : Planned) {returned : ℕ} {after : List ℕ} → Bus.Meets reply out told after
+pub planned-fills : (reply : Reply) (out : List ℕ) (told : Planned) {returned : ℕ} {after : List ℕ} → Plans reply out told after
     → returned ≡ numberOf (told .answer) + 256 * told .count → Fills (planningOf reply out) returned after
 planned-fills reply out told met is =
     record { told = is ∙ ap (λ (t : Planned). numberOf (t .answer) + 256 * t .count) (met .told); buffer = met .buffer }

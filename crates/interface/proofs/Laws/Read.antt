@@ -12,7 +12,7 @@ use Rattle.controller.specs.declared.«record».Record.{Record}
 use Rattle.planner.specs.declared.wish.Wish.{Wish}
 use Rattle.interface.specs.declared.record_bytes.ReadRecord.the-variants as ReadRecord
 use Rattle.interface.specs.declared.wish_bytes.ReadWish.the-variants as ReadWish
-use Rattle.interface.specs.RecordBytes.{recordBytes, recordFrom, isRecordLong, recordIn, readAs, sameBytes}
+use Rattle.interface.specs.RecordBytes.{recordBytes, recordFrom, isRecordLong, recordIn, recordAs, sameBytes}
 use Rattle.interface.specs.WishBytes.{wishAs, wishBytes, wishFrom, wishIn}
 use Rattle.interface.proofs.Laws.Same.{same-eq}
 
@@ -32,7 +32,7 @@ said own is none apart one size bytes found a h =
     (eqb-true (length bytes) size (long .0), ap own (sym (one found a (same .1))) ∙ sym (same-eq bytes (own found) (same .0)))
 
 record-said : (bytes : List ℕ) (rec : Record) → recordIn bytes ≡ ReadRecord.Is rec → (length bytes ≡ 24) × (recordBytes rec ≡ bytes)
-unfolding recordIn isRecordLong readAs
+unfolding recordIn isRecordLong recordAs
 record-said bytes =
     said recordBytes ReadRecord.Is ReadRecord.Broken
     (λ rec none. let z : _≡_ {A = ℕ} 0 1 = cc in omega arith) (λ a b same. cc)

@@ -10,25 +10,25 @@ use native.Mathlib.Omega.{arith}
 use lib.Dec.{eqb, ltb}
 use lib.ListN.{length}
 use borrow.Author.Tests.{not-false}
-use Rattle.controller.specs.declared.decision.Answer.{Answer}
-use Rattle.controller.specs.declared.decision.Answer.the-variants.{Done, Unsound, NotWhole, NotWish}
+use Rattle.controller.specs.declared.answers.Answer.{Answer}
+use Rattle.controller.specs.declared.answers.Answer.the-variants.{Done, Unsound, NotWhole, NotWish}
 use Rattle.controller.specs.declared.«record».Record.{Record}
 use Rattle.controller.specs.Bus.{decided, resetDecided, whole}
-use Rattle.controller.specs.Decision.{numberOf}
-use Rattle.controller.specs.Rows.{Given, Row, resetRows, transferRows}
+use Rattle.controller.specs.Answers.{numberOf, Given, Row}
+use Rattle.controller.specs.Rows.{resetRows, transferRows}
 use Rattle.controller.proofs.Laws.Choice.{cond-map}
-use Rattle.controller.proofs.Laws.Rows.{first, given}
+use Rattle.controller.proofs.Laws.Answers.{first, given}
 use Rattle.controller.proofs.Theorems.Answers.{transfer-answers}
-use Rattle.glass.specs.Picture.{answered}
-use Rattle.glass.specs.Theorems.{pictureRows}
-use Rattle.glass.proofs.Theorems.{picture-answers}
+use Rattle.dots.specs.Picture.{answered}
+use Rattle.dots.specs.Theorems.{pictureRows}
+use Rattle.dots.proofs.Theorems.{picture-answers}
 use Rattle.lines.specs.declared.reader.Line.{Line}
 use Rattle.lines.specs.Reading.{badLine, lineOf}
 use Rattle.lines.specs.Theorems.{writerRows}
 use Rattle.lines.specs.Writing.{lineWriting}
 use Rattle.lines.proofs.Theorems.One.{writer-answers}
 use Rattle.lines.proofs.Theorems.Read.{reader-answers}
-use Rattle.planner.specs.Bus.{replyTo}
+use Rattle.planner.specs.Call.{replyTo}
 use Rattle.planner.specs.Theorems.{planRows}
 use Rattle.planner.proofs.Theorems.Wish.{plan-answers}
 use Rattle.interface.specs.declared.record_bytes.ReadRecord.{ReadRecord}
@@ -41,7 +41,7 @@ use Rattle.interface.specs.LineCalls.{stored, writeCall}
 use Rattle.interface.specs.PictureCalls.{pictureFrom}
 use Rattle.interface.specs.PlanCalls.{planFrom, wishless}
 use Rattle.interface.specs.RecordBytes.{recordFrom, isRecordLong, recordIn}
-use Rattle.interface.specs.Theorems.{CallAnswers, ReadTells, Tells, answerIn, notWish, planCallRows, resetCallRows, rowsFrom}
+use Rattle.interface.specs.Theorems.{CallAnswers, ReadTells, Tells, answerIn, notWish, planCallRows, resetCallRows, recordRows}
 use Rattle.interface.specs.WishBytes.{wishIn}
 use Rattle.interface.proofs.Laws.Calls.{reset-done}
 use Rattle.interface.proofs.Laws.Told.{answer-in}
@@ -54,27 +54,27 @@ tells told m returned rows is by n =
     (λ e. by n .0 (sym same ∙ e), λ g. same ∙ by n .1 g)
 
 -- bytes that say no record
-unsound-rows : (rows : Record → List Row) (n : ℕ) → (numberOf Unsound ≡ n) ↔ Given n (rowsFrom Broken rows)
-unfolding rowsFrom first numberOf
-unsound-rows rows = given 1 (rowsFrom Broken rows) refl
+unsound-rows : (rows : Record → List Row) (n : ℕ) → (numberOf Unsound ≡ n) ↔ Given n (recordRows Broken rows)
+unfolding recordRows first
+unsound-rows rows = given 1 (recordRows Broken rows) refl
 
 transfer-tells : (read : ReadRecord) (bytes mem : List ℕ) (kind byte wait : ℕ)
-    → Tells (transferFrom read bytes mem kind byte wait .returned) (rowsFrom read (λ rec. transferRows rec mem kind byte wait))
-unfolding transferFrom rowsFrom
+    → Tells (transferFrom read bytes mem kind byte wait .returned) (recordRows read (λ rec. transferRows rec mem kind byte wait))
+unfolding transferFrom recordRows
 transfer-tells Broken bytes mem kind byte wait = tells Unsound 0 _ _ (omega arith) (unsound-rows (λ rec. transferRows rec mem kind byte wait))
 transfer-tells (Is rec) bytes mem kind byte wait =
     let d = decided rec mem kind byte wait in
     tells (d .answer) (d .byte) _ _ refl (transfer-answers rec mem kind byte wait)
 
 picture-tells : (read : ReadRecord) (mem : List ℕ) (columns lines : ℕ) (lit : Bool) (out : List ℕ)
-    → Tells (pictureFrom read mem columns lines lit out .returned) (rowsFrom read (λ rec. pictureRows rec mem columns lines (length out)))
-unfolding pictureFrom rowsFrom
+    → Tells (pictureFrom read mem columns lines lit out .returned) (recordRows read (λ rec. pictureRows rec mem columns lines (length out)))
+unfolding pictureFrom recordRows
 picture-tells Broken mem columns lines lit out = tells Unsound 0 _ _ (omega arith) (unsound-rows (λ rec. pictureRows rec mem columns lines (length out)))
 picture-tells (Is rec) mem columns lines lit out =
     tells (answered rec mem columns lines (length out)) 0 _ _ (omega arith) (picture-answers rec mem columns lines (length out))
 
 reset-number : (bytes mem : List ℕ) → answerIn (resetCall bytes mem .returned) ≡ first (resetCallRows bytes mem)
-unfolding resetCall resetCallRows resetRows first numberOf
+unfolding resetCall resetCallRows resetRows first
 reset-number bytes mem =
     let d = resetDecided (recordFrom bytes) mem in
     let number : Call → ℕ = λ call. answerIn (call .returned) in
@@ -84,7 +84,7 @@ reset-number bytes mem =
 
 -- where there is no wish, 2 and then 13
 wishless-number : (marks values out : List ℕ) → numberOf (wishless marks values) ≡ first (planCallRows ReadWish.Broken marks values out)
-unfolding wishless planCallRows notWish first numberOf
+unfolding wishless planCallRows notWish first
 wishless-number marks values out = go (whole marks) (whole values)
   where
     go : (a b : Bool) → numberOf (cond (not a) NotWhole (cond (not b) NotWhole NotWish)) ≡ cond (not (a && b)) 2 13
@@ -108,14 +108,14 @@ write-tells kind byte wait out =
 
 -- a line that was read
 stored-number : (line : Line) (out : List ℕ) → line .answer ≡ Done → answerIn (stored line out .returned) ≡ cond (ltb (length out) 6) 11 0
-unfolding stored numberOf
+unfolding stored
 stored-number line out done =
     rw done
     (cond-map (λ (call : Filling). answerIn (call .returned)) (ltb (length out) 6) _ _ 11 0 (λ _. refl) (λ _. answer-in Done (line .length)))
 
 -- and one that was not
 bad-number : (line : Line) (out : List ℕ) → line ≡ badLine → answerIn (stored line out .returned) ≡ 12
-unfolding stored numberOf
+unfolding stored
 bad-number line out bad = rw bad refl
 
 read-tells : (text out : List ℕ) → ReadTells (stored (lineOf text) out .returned) text out

@@ -13,7 +13,7 @@ use Rattle.controller.specs.declared.«record».Record.{Record}
 use Rattle.controller.specs.Record.{resetTime}
 use Rattle.controller.proofs.Laws.Record.{sound-busy}
 use Rattle.planner.proofs.Theorems.Plan.{four-bytes}
-use Rattle.interface.specs.RecordBytes.{widthByte, bitByte, memoryByte, cellByte, halfByte, valueByte, counterFrom, halfFrom, recordBytes, recordFrom, isRecordLong, recordIn, readAs}
+use Rattle.interface.specs.RecordBytes.{widthByte, bitByte, memoryByte, cellByte, halfByte, valueByte, counterFrom, halfFrom, recordBytes, recordFrom, isRecordLong, recordIn, recordAs}
 use Rattle.interface.specs.Theorems.{RecordReadsBack, RecordWritesBack}
 use Rattle.interface.proofs.Laws.Same.{same-refl, bytes-length}
 use Rattle.interface.proofs.Laws.Read.{read-own}
@@ -49,7 +49,7 @@ from-back rec below =
     simp (width-back, bit-back, counter-back, half-back, n)
 
 pub record-reads-back : RecordReadsBack
-unfolding recordIn isRecordLong readAs resetTime
+unfolding recordIn isRecordLong recordAs resetTime
 record-reads-back rec is =
     let limit = sound-busy rec is in
     let below : rec .busy < 4294967296 = omega arith in

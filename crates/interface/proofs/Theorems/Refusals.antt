@@ -9,21 +9,23 @@ use native.Mathlib.Omega.{arith}
 use lib.Dec.{eqb, ltb}
 use lib.ListN.{length}
 use borrow.Author.Tests.{eqb-true, not-false}
-use Rattle.controller.specs.declared.decision.Answer.{Answer}
-use Rattle.controller.specs.declared.decision.Answer.the-variants.{Done, Unsound, NotWhole, OutputShort}
+use Rattle.controller.specs.declared.answers.Answer.{Answer}
+use Rattle.controller.specs.declared.answers.Answer.the-variants.{Done, Unsound, NotWhole, OutputShort}
 use Rattle.controller.specs.declared.decision.Decision.{Decision}
 use Rattle.controller.specs.declared.«record».Record.{Record}
+use Rattle.controller.proofs.Laws.Answers.{one-answer}
 use Rattle.controller.specs.Bus.{badTransfer, decided, resetDecided, whole}
-use Rattle.controller.specs.Decision.{isDone, isRefusal, numberOf, performed}
+use Rattle.controller.specs.Answers.{isDone, isRefusal, numberOf}
+use Rattle.controller.specs.Decision.{performed}
 use Rattle.controller.specs.Theorems.{left}
 use Rattle.controller.proofs.Laws.Choice.{cond-elim}
 use Rattle.controller.proofs.Theorems.Refusals.{transfer-refusals}
-use Rattle.glass.proofs.Theorems.{picture-refusals}
-use Rattle.glass.specs.Picture.{answered}
+use Rattle.dots.proofs.Theorems.{picture-refusals}
+use Rattle.dots.specs.Picture.{answered}
 use Rattle.lines.specs.Reading.{lineOf}
 use Rattle.lines.specs.declared.reader.Line.{Line}
 use Rattle.lines.specs.Writing.{Writing, lineWriting, onto, wanting}
-use Rattle.planner.specs.Bus.{replyTo}
+use Rattle.planner.specs.Call.{replyTo}
 use Rattle.planner.proofs.Theorems.Wish.{plan-refusals}
 use Rattle.interface.specs.declared.record_bytes.ReadRecord.{ReadRecord}
 use Rattle.interface.specs.declared.record_bytes.ReadRecord.the-variants.{Is, Broken}
@@ -39,7 +41,7 @@ use Rattle.interface.specs.Theorems.{CallRefusals, KeepsBuffer, KeepsMem
 use Rattle.interface.specs.WishBytes.{wishIn}
 use Rattle.interface.proofs.Laws.Calls.{reset-done}
 use Rattle.interface.proofs.Laws.Read.{read-own}
-use Rattle.interface.proofs.Laws.Told.{answer-in, one-answer}
+use Rattle.interface.proofs.Laws.Told.{answer-in}
 
 -- a refusal that is told is the one that was given, and where that tells nothing beside, it is told bare
 bare : (told answer : Answer) (n returned : ℕ) → returned ≡ numberOf told + 256 * n → (isRefusal told ≡ true → n ≡ 0) → Refuses answer returned

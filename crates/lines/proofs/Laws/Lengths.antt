@@ -7,7 +7,7 @@ use native.Mathlib.Omega.{arith}
 use lib.ListN.{length, length-append}
 use Rattle.lines.specs.Digits.{tab, newline, byteField, numberField}
 use Rattle.lines.specs.Line.{line, kindField, waitLimit}
-use Rattle.lines.specs.Rows.{row, rowSize}
+use Rattle.lines.specs.ReportText.{row, rowSize}
 use Rattle.lines.proofs.Laws.Digits.{field-below}
 
 pub line-length : (kind byte wait : ℕ) → length (line kind byte wait) ≡ 5 + length (numberField wait newline)

@@ -13,7 +13,7 @@ use Rattle.controller.proofs.Laws.Choice.{and-left, and-right}
 use Rattle.lines.specs.declared.reader.Wait.the-variants.{Good, Bad}
 use Rattle.lines.specs.Digits.{newline, worthOf}
 use Rattle.lines.specs.Line.{waitLimit}
-use Rattle.lines.specs.Reading.{byteAt, byteStands, mayFollow, restOf}
+use Rattle.lines.specs.Reading.{textAt, byteStands, mayFollow, restOf}
 
 -- what a digit that may follow is
 pub follow-digit : (value worth : ℕ) → mayFollow value worth ≡ true → (0 < value) × (worth < 10) × (value * 10 + worth ≤ waitLimit)
@@ -26,11 +26,11 @@ follow-digit value worth may =
     )
 
 -- the two digits of a byte that stands
-pub stands-digits : (text : List ℕ) → byteStands text ≡ true → (worthOf (byteAt text 2) < 16) × (worthOf (byteAt text 3) < 16)
+pub stands-digits : (text : List ℕ) → byteStands text ≡ true → (worthOf (textAt text 2) < 16) × (worthOf (textAt text 3) < 16)
 unfolding byteStands
 stands-digits text stands =
-    let more = and-right (ltb (worthOf (byteAt text 2)) 16) _ stands in
-    (ltb-true (worthOf (byteAt text 2)) 16 (and-left _ _ stands), ltb-true (worthOf (byteAt text 3)) 16 (and-left _ _ more))
+    let more = and-right (ltb (worthOf (textAt text 2)) 16) _ stands in
+    (ltb-true (worthOf (textAt text 2)) 16 (and-left _ _ stands), ltb-true (worthOf (textAt text 3)) 16 (and-left _ _ more))
 
 -- at the text's end no newline stands
 pub rest-none : (text : List ℕ) (place value : ℕ) → length text ≤ place → restOf place value (drop place text) ≡ Bad

@@ -12,13 +12,13 @@ use Rattle.lines.specs.declared.reader.Wait.{Wait}
 use Rattle.lines.specs.declared.reader.Wait.the-variants.{Good, Bad}
 use Rattle.lines.specs.Digits.{newline, digit, worthOf, decimal}
 use Rattle.lines.specs.Line.{waitLimit}
-use Rattle.lines.specs.Reading.{byteAt, mayFollow, restOf}
+use Rattle.lines.specs.Reading.{textAt, mayFollow, restOf}
 use Rattle.lines.proofs.Laws.Digits.{either, decimal-small, decimal-split, decimal-more, length-split, worth-digit, digit-worth}
 use Rattle.lines.proofs.Laws.Steps.{follow-digit}
 
 -- a wait that starts here, at this place of its line
 unfoldable pub begun : ℕ → List ℕ → Wait
-begun place rest = cond (ltb (worthOf (byteAt rest 0)) 10) (restOf (place + 1) (worthOf (byteAt rest 0)) (drop 1 rest)) Bad
+begun place rest = cond (ltb (worthOf (textAt rest 0)) 10) (restOf (place + 1) (worthOf (textAt rest 0)) (drop 1 rest)) Bad
 
 digit-above : (worth : ℕ) → 0x30 ≤ digit worth
 unfolding digit
@@ -43,7 +43,7 @@ rest-digit place n more large below =
 -- the digits of a number are read as the number
 spelled-reads : (k place n : ℕ) (more : List ℕ) → n < k → n ≤ waitLimit
     → begun place (decimal n ++ more) ≡ restOf (place + length (decimal n)) n more
-unfolding begun byteAt
+unfolding begun textAt
 spelled-reads zero place n more enough below = absurd (omega arith)
 spelled-reads (suc k) place n more enough below =
     either (ltb n 10)
@@ -102,12 +102,12 @@ rest-good (byte ∷ rest) place value wait end below good =
     (λ may. let bad = simp (e, may) at good in let no : _≡_ {A = ℕ} 0 1 = cc in absurd (omega arith)))
 
 begun-none : (place : ℕ) → begun place [] ≡ Bad
-unfolding begun byteAt worthOf
+unfolding begun textAt worthOf
 begun-none place = refl
 
 -- a good wait was read from the digits that it starts with
 pub begun-good : (rest : List ℕ) (place wait end : ℕ) → begun place rest ≡ Good wait end → ReadFrom rest place wait end
-unfolding begun byteAt
+unfolding begun textAt
 begun-good [] place wait end good = let none = begun-none place in let no : _≡_ {A = ℕ} 0 1 = cc in absurd (omega arith)
 begun-good (byte ∷ rest) place wait end good =
     either (ltb (worthOf byte) 10)

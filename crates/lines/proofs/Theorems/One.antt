@@ -10,19 +10,18 @@ use lib.ListN.{length, drop}
 use lib.Seq.{drop-append-seam}
 use Rattle.controller.proofs.Theorems.One.{one}
 use Rattle.controller.specs.Bus.{badTransfer}
-use Rattle.controller.specs.Decision.{numberOf}
-use Rattle.controller.specs.Rows.{Given}
+use Rattle.controller.specs.Answers.{numberOf, Given}
 use Rattle.lines.specs.declared.reader.Line.{Line}
 use Rattle.lines.specs.Line.{line}
 use Rattle.lines.specs.Reading.{lineOf}
 use Rattle.lines.specs.Writing.{lineWriting, wanting}
-use Rattle.lines.specs.Theorems.{readAs, OneReading, writerRows, WriterAnswers, wantingRows, TextAnswers, OneWriting, OneRead}
+use Rattle.lines.specs.Theorems.{lineRead, OneReading, writerRows, WriterAnswers, wantingRows, TextAnswers, OneWriting, OneRead}
 use Rattle.lines.proofs.Laws.Digits.{either}
 use Rattle.lines.proofs.Theorems.Written.{written-reads-back}
 
 pub one-reading : OneReading
 one-reading kind byte wait kind′ byte′ wait′ more more′ can can′ same =
-    let both : readAs kind byte wait ≡ readAs kind′ byte′ wait′ =
+    let both : lineRead kind byte wait ≡ lineRead kind′ byte′ wait′ =
     sym (written-reads-back kind byte wait more can) ∙ ap lineOf same ∙ written-reads-back kind′ byte′ wait′ more′ can′ in
     let k = ap (λ (l : Line). l .kind) both in
     let b = ap (λ (l : Line). l .byte) both in
@@ -59,7 +58,7 @@ two-rows false false n = (
 
 writer-number : (kind byte wait : ℕ) (out : List ℕ)
     → numberOf (lineWriting kind byte wait out .answer) ≡ cond (badTransfer kind byte) 3 (cond (ltb (length out) 16) 11 0)
-unfolding lineWriting wanting numberOf
+unfolding lineWriting wanting
 writer-number kind byte wait out =
     either (badTransfer kind byte) (λ e. simp e) (λ e. either (ltb (length out) 16) (λ f. simp (e, f)) (λ f. simp (e, f)))
 
@@ -73,7 +72,7 @@ one-row true n = (λ e. inl (refl, e), λ g. ⊎-elim (λ h. h .1) (λ h. absurd
 one-row false n = (λ e. inr (refl, sym e), λ g. ⊎-elim (λ h. absurd (false≢true (h .0))) (λ h. sym (h .1)) g)
 
 text-number : (size : ℕ) (text out : List ℕ) → numberOf (wanting size text out .answer) ≡ cond (ltb (length out) size) 11 0
-unfolding wanting numberOf
+unfolding wanting
 text-number size text out = either (ltb (length out) size) (λ e. simp e) (λ e. simp e)
 
 pub text-answers : TextAnswers

@@ -11,14 +11,14 @@ use lib.Dec.{ltb}
 use lib.ListN.{length, take, drop, length-append}
 use lib.Seq.{take-at}
 use Rattle.controller.proofs.Laws.Choice.{and-left, and-right}
-use Rattle.controller.specs.declared.decision.Answer.the-variants.{Done, BadLine}
+use Rattle.controller.specs.declared.answers.Answer.the-variants.{Done, BadLine}
 use Rattle.controller.specs.Bus.{badTransfer}
 use Rattle.lines.specs.declared.reader.Line.{Line}
 use Rattle.lines.specs.declared.reader.Wait.{Wait}
 use Rattle.lines.specs.declared.reader.Wait.the-variants.{Good, Bad}
 use Rattle.lines.specs.Digits.{tab, newline, worthOf, byteField, numberField}
 use Rattle.lines.specs.Line.{line, kindField, kindOf}
-use Rattle.lines.specs.Reading.{byteAt, kindStands, byteRead, byteStands, waitOf, badLine, withWait, completed, lineOf}
+use Rattle.lines.specs.Reading.{textAt, kindStands, byteRead, byteStands, waitOf, badLine, withWait, lineFrom, lineOf}
 use Rattle.lines.specs.Writing.{wanting, lineWriting}
 use Rattle.lines.specs.Theorems.{Sayable, Starts, ReadWritesBack, ReaderAnswers, ReadIsSayable}
 use Rattle.lines.proofs.Laws.Digits.{either, digit-worth, decimal-some, field-length}
@@ -34,36 +34,36 @@ record Parts (text : List ℕ) : Type 0 where
   end : ℕ
   kind : kindStands text ≡ true
   byte : byteStands text ≡ true
-  good : badTransfer (kindOf (byteAt text 0)) (byteRead text) ≡ false
+  good : badTransfer (kindOf (textAt text 0)) (byteRead text) ≡ false
   read : waitOf text ≡ Good wait end
 
 -- a text either has all parts of a line, or it is a bad line
 parts-by : (text : List ℕ) (w : Wait) → waitOf text ≡ w → kindStands text ≡ true → byteStands text ≡ true
-    → badTransfer (kindOf (byteAt text 0)) (byteRead text) ≡ false → Parts text ⊎ (lineOf text ≡ badLine)
-unfolding lineOf completed withWait
+    → badTransfer (kindOf (textAt text 0)) (byteRead text) ≡ false → Parts text ⊎ (lineOf text ≡ badLine)
+unfolding lineOf lineFrom withWait
 parts-by text Bad e k b t = inr (simp (k, b, t, e))
 parts-by text (Good wait end) e k b t = inl (record { wait = wait; end = end; kind = k; byte = b; good = t; read = e })
 
 parts : (text : List ℕ) → Parts text ⊎ (lineOf text ≡ badLine)
-unfolding lineOf completed
+unfolding lineOf lineFrom
 parts text =
     either (kindStands text)
     (λ k. either (byteStands text)
-    (λ b. either (badTransfer (kindOf (byteAt text 0)) (byteRead text))
+    (λ b. either (badTransfer (kindOf (textAt text 0)) (byteRead text))
     (λ t. inr (simp (k, b, t)))
     (λ t. parts-by text (waitOf text) refl k b t))
     (λ b. inr (simp (k, b))))
     (λ k. inr (simp k))
 
 parts-read : (text : List ℕ) (p : Parts text)
-    → lineOf text ≡ record { answer = Done; kind = kindOf (byteAt text 0); byte = byteRead text; wait = p .wait; length = p .end }
-unfolding lineOf completed withWait
+    → lineOf text ≡ record { answer = Done; kind = kindOf (textAt text 0); byte = byteRead text; wait = p .wait; length = p .end }
+unfolding lineOf lineFrom withWait
 parts-read text p = simp (p .kind, p .byte, p .good, p .read)
 
 -- a text whose fifth byte is a tab, byte by byte
-five : (text : List ℕ) → byteAt text 4 ≡ tab
-    → text ≡ byteAt text 0 ∷ byteAt text 1 ∷ byteAt text 2 ∷ byteAt text 3 ∷ byteAt text 4 ∷ drop 5 text
-unfolding byteAt
+five : (text : List ℕ) → textAt text 4 ≡ tab
+    → text ≡ textAt text 0 ∷ textAt text 1 ∷ textAt text 2 ∷ textAt text 3 ∷ textAt text 4 ∷ drop 5 text
+unfolding textAt
 five [] last = absurd (omega arith)
 five (a ∷ []) last = absurd (omega arith)
 five (a ∷ b ∷ []) last = absurd (omega arith)
@@ -72,8 +72,8 @@ five (a ∷ b ∷ c ∷ d ∷ []) last = absurd (omega arith)
 five (a ∷ b ∷ c ∷ d ∷ e ∷ rest) last = refl
 
 -- the wait of such a text starts after them
-wait-begun : (text : List ℕ) → byteAt text 4 ≡ tab → waitOf text ≡ begun 5 (drop 5 text)
-unfolding waitOf begun byteAt
+wait-begun : (text : List ℕ) → textAt text 4 ≡ tab → waitOf text ≡ begun 5 (drop 5 text)
+unfolding waitOf begun textAt
 wait-begun [] last = absurd (omega arith)
 wait-begun (a ∷ []) last = absurd (omega arith)
 wait-begun (a ∷ b ∷ []) last = absurd (omega arith)
@@ -82,66 +82,66 @@ wait-begun (a ∷ b ∷ c ∷ d ∷ []) last = absurd (omega arith)
 wait-begun (a ∷ b ∷ c ∷ d ∷ e ∷ rest) last = refl
 
 -- the two tabs, and the letter's kind
-kind-tab : (text : List ℕ) → kindStands text ≡ true → (kindOf (byteAt text 0) < 4) × (byteAt text 1 ≡ tab)
+kind-tab : (text : List ℕ) → kindStands text ≡ true → (kindOf (textAt text 0) < 4) × (textAt text 1 ≡ tab)
 unfolding kindStands
 kind-tab text stands =
-    (ltb-true (kindOf (byteAt text 0)) 4 (and-left _ _ stands), eqb-true (byteAt text 1) tab (and-right (ltb (kindOf (byteAt text 0)) 4) _ stands))
+    (ltb-true (kindOf (textAt text 0)) 4 (and-left _ _ stands), eqb-true (textAt text 1) tab (and-right (ltb (kindOf (textAt text 0)) 4) _ stands))
 
-byte-tab : (text : List ℕ) → byteStands text ≡ true → byteAt text 4 ≡ tab
+byte-tab : (text : List ℕ) → byteStands text ≡ true → textAt text 4 ≡ tab
 unfolding byteStands
 byte-tab text stands =
-    eqb-true (byteAt text 4) tab
-    (and-right (ltb (worthOf (byteAt text 3)) 16) _ (and-right (ltb (worthOf (byteAt text 2)) 16) _ stands))
+    eqb-true (textAt text 4) tab
+    (and-right (ltb (worthOf (textAt text 3)) 16) _ (and-right (ltb (worthOf (textAt text 2)) 16) _ stands))
 
 -- the line's own bytes are those of the transfer that was read
 module _ (text : List ℕ) (p : Parts text) where
   from : ReadFrom (drop 5 text) 5 (p .wait) (p .end)
   from = begun-good (drop 5 text) 5 (p .wait) (p .end) (sym (wait-begun text (byte-tab text (p .byte))) ∙ p .read)
 
-  digits : (worthOf (byteAt text 2) < 16) × (worthOf (byteAt text 3) < 16)
+  digits : (worthOf (textAt text 2) < 16) × (worthOf (textAt text 3) < 16)
   digits = stands-digits text (p .byte)
 
-  byte-same : byteField (byteRead text) ≡ byteAt text 2 ∷ byteAt text 3 ∷ tab ∷ []
+  byte-same : byteField (byteRead text) ≡ textAt text 2 ∷ textAt text 3 ∷ tab ∷ []
   unfolding byteField
   byte-same =
       let a = digits .0 in
       let b = digits .1 in
-      let up : byteRead text / 16 ≡ worthOf (byteAt text 2) = omega arith in
-      let down : byteRead text % 16 ≡ worthOf (byteAt text 3) = omega arith in
-      simp (up, down, digit-worth (byteAt text 2) a, digit-worth (byteAt text 3) b)
+      let up : byteRead text / 16 ≡ worthOf (textAt text 2) = omega arith in
+      let down : byteRead text % 16 ≡ worthOf (textAt text 3) = omega arith in
+      simp (up, down, digit-worth (textAt text 2) a, digit-worth (textAt text 3) b)
 
-  kind-same : kindField (kindOf (byteAt text 0)) ≡ byteAt text 0 ∷ tab ∷ []
+  kind-same : kindField (kindOf (textAt text 0)) ≡ textAt text 0 ∷ tab ∷ []
   unfolding kindField
-  kind-same = simp (letter-kind (byteAt text 0) (kind-tab text (p .kind) .0))
+  kind-same = simp (letter-kind (textAt text 0) (kind-tab text (p .kind) .0))
 
-  stands : text ≡ line (kindOf (byteAt text 0)) (byteRead text) (p .wait) ++ from .more
+  stands : text ≡ line (kindOf (textAt text 0)) (byteRead text) (p .wait) ++ from .more
   unfolding line numberField
   stands =
       five text (byte-tab text (p .byte))
       ∙ simp (kind-same, byte-same, kind-tab text (p .kind) .1, byte-tab text (p .byte), from .text, append-assoc)
 
-  ends : p .end ≡ length (line (kindOf (byteAt text 0)) (byteRead text) (p .wait))
-  ends = omega (arith, from .ends, line-length (kindOf (byteAt text 0)) (byteRead text) (p .wait), field-length (p .wait) newline)
+  ends : p .end ≡ length (line (kindOf (textAt text 0)) (byteRead text) (p .wait))
+  ends = omega (arith, from .ends, line-length (kindOf (textAt text 0)) (byteRead text) (p .wait), field-length (p .wait) newline)
 
-  sayable : Sayable (kindOf (byteAt text 0)) (byteRead text) (p .wait)
+  sayable : Sayable (kindOf (textAt text 0)) (byteRead text) (p .wait)
   sayable = let a = digits .0 in let b = digits .1 in record { transfer = p .good; is-byte = omega arith; is-wait = from .below }
 
   starts : Starts text
-  starts = record { kind = kindOf (byteAt text 0); byte = byteRead text; wait = p .wait; more = from .more; sayable = sayable; stands = stands }
+  starts = record { kind = kindOf (textAt text 0); byte = byteRead text; wait = p .wait; more = from .more; sayable = sayable; stands = stands }
 
   long : (7 ≤ p .end) × (p .end ≤ 16) × (p .end ≤ length text)
   long =
-      let own = line (kindOf (byteAt text 0)) (byteRead text) (p .wait) in
+      let own = line (kindOf (textAt text 0)) (byteRead text) (p .wait) in
       let whole : length text ≡ length own + length (from .more) = ap length stands ∙ length-append own (from .more) in
       let some = decimal-some (p .wait) in
-      let most = line-fits (kindOf (byteAt text 0)) (byteRead text) (p .wait) (from .below) in (
-        omega (arith, ends, line-length (kindOf (byteAt text 0)) (byteRead text) (p .wait), field-length (p .wait) newline),
+      let most = line-fits (kindOf (textAt text 0)) (byteRead text) (p .wait) (from .below) in (
+        omega (arith, ends, line-length (kindOf (textAt text 0)) (byteRead text) (p .wait), field-length (p .wait) newline),
         omega (arith, ends),
         omega (arith, ends),
       )
 
-  own-bytes : take (p .end) text ≡ line (kindOf (byteAt text 0)) (byteRead text) (p .wait)
-  own-bytes = ap (take (p .end)) stands ∙ take-at (line (kindOf (byteAt text 0)) (byteRead text) (p .wait)) (from .more) (p .end) (sym ends)
+  own-bytes : take (p .end) text ≡ line (kindOf (textAt text 0)) (byteRead text) (p .wait)
+  own-bytes = ap (take (p .end)) stands ∙ take-at (line (kindOf (textAt text 0)) (byteRead text) (p .wait)) (from .more) (p .end) (sym ends)
 
 -- a text that starts with a line is not a bad line
 not-bad : (text : List ℕ) → lineOf text ≡ badLine → Starts text → ⊥

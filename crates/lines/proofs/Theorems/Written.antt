@@ -8,15 +8,15 @@ use native.Mathlib.Omega.{arith}
 use borrow.Author.Tests.{lt-ltb}
 use lib.Dec.{ltb}
 use lib.ListN.{length, drop}
-use Rattle.controller.specs.declared.decision.Answer.the-variants.{Done}
+use Rattle.controller.specs.declared.answers.Answer.the-variants.{Done}
 use Rattle.controller.specs.Bus.{badTransfer}
 use Rattle.lines.specs.declared.writer.Written.{Written}
 use Rattle.lines.specs.Writing.{Writing, onto, writing, wanting, lineWriting}
 use Rattle.lines.specs.declared.reader.Wait.the-variants.{Good}
 use Rattle.lines.specs.Digits.{newline, digit, worthOf, decimal, byteField, numberField}
 use Rattle.lines.specs.Line.{line, kindField, kindOf, waitLimit}
-use Rattle.lines.specs.Reading.{byteAt, kindStands, byteStands, byteRead, restOf, waitOf, withWait, completed, lineOf}
-use Rattle.lines.specs.Theorems.{Sayable, readAs, WrittenReadsBack, BufferReadsBack, LinesFit}
+use Rattle.lines.specs.Reading.{textAt, kindStands, byteStands, byteRead, restOf, waitOf, withWait, lineFrom, lineOf}
+use Rattle.lines.specs.Theorems.{Sayable, lineRead, WrittenReadsBack, BufferReadsBack, LinesFit}
 use Rattle.lines.proofs.Laws.Digits.{either, worth-digit, field-length}
 use Rattle.lines.proofs.Laws.Kinds.{kind-below, kind-letter}
 use Rattle.lines.proofs.Laws.Lengths.{line-length, line-fits}
@@ -36,7 +36,7 @@ module _ (kind byte wait : ℕ) (more : List ℕ) (can : Sayable kind byte wait)
   below = kind-below kind byte (can .transfer)
 
   kind-written : kindStands (line kind byte wait ++ more) ≡ true
-  unfolding kindStands line kindField byteField byteAt
+  unfolding kindStands line kindField byteField textAt
   kind-written = simp (kind-letter kind below, lt-ltb kind 4 below)
 
   high : worthOf (digit (byte / 16)) ≡ byte / 16
@@ -46,25 +46,25 @@ module _ (kind byte wait : ℕ) (more : List ℕ) (can : Sayable kind byte wait)
   low = worth-digit (byte % 16) (omega arith)
 
   byte-written : byteStands (line kind byte wait ++ more) ≡ true
-  unfolding byteStands line kindField byteField byteAt
+  unfolding byteStands line kindField byteField textAt
   byte-written =
       let is = can .is-byte in
       simp (high, low, lt-ltb (byte / 16) 16 (omega arith), lt-ltb (byte % 16) 16 (omega arith))
 
-  kind-read : kindOf (byteAt (line kind byte wait ++ more) 0) ≡ kind
-  unfolding line kindField byteAt
+  kind-read : kindOf (textAt (line kind byte wait ++ more) 0) ≡ kind
+  unfolding line kindField textAt
   kind-read = kind-letter kind below
 
   byte-read : byteRead (line kind byte wait ++ more) ≡ byte
-  unfolding line kindField byteField byteAt
+  unfolding line kindField byteField textAt
   byte-read = simp (high, low) (omega arith)
 
   wait-written : waitOf (line kind byte wait ++ more) ≡ Good wait (length (line kind byte wait))
-  unfolding waitOf line kindField byteField byteAt begun
+  unfolding waitOf line kindField byteField textAt begun
   wait-written = wait-reads 5 wait more (can .is-wait) ∙ ap (Good wait) (omega (arith, line-length kind byte wait))
 
-  reads-back : lineOf (line kind byte wait ++ more) ≡ readAs kind byte wait
-  unfolding lineOf completed withWait
+  reads-back : lineOf (line kind byte wait ++ more) ≡ lineRead kind byte wait
+  unfolding lineOf lineFrom withWait
   reads-back = simp (kind-written, byte-written, kind-read, byte-read, can .transfer, wait-written)
 
 pub written-reads-back : WrittenReadsBack

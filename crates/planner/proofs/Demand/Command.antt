@@ -9,12 +9,14 @@ use native.Mathlib.Omega.{arith}
 use lib.ListN.{getD}
 use Rattle.controller.specs.Bus.{badTransfer}
 use Rattle.controller.specs.Cells.{placeOf}
-use Rattle.controller.specs.Decision.{numberOf, performed}
+use Rattle.controller.specs.Answers.{numberOf}
+use Rattle.controller.specs.Decision.{performed}
 use Rattle.controller.specs.Execute.{completed, executed, written}
 use Rattle.controller.specs.Halves.{highHalf, lowHalf, begun, firstTold, firstHalf, crossed, ended, secondHalf, narrow, accepted}
 use Rattle.controller.specs.Instruction.{decoded}
 use Rattle.controller.specs.Record.{withBusy, withHalf}
-use Rattle.controller.specs.Runs.{State, Sent, after}
+use Rattle.controller.specs.declared.sent.Sent.{Sent}
+use Rattle.controller.specs.Runs.{State, after}
 use Rattle.controller.specs.declared.decision.Decision.{Decision}
 use Rattle.controller.specs.declared.decision.Effect.the-variants.{Keep, Store}
 use Rattle.controller.specs.declared.execute.Transfer.{Transfer}

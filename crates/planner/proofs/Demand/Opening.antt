@@ -17,7 +17,8 @@ use Rattle.controller.specs.Execute.{shortTime, longTime, completed, executed, 
 use Rattle.controller.specs.Halves.{accepted, narrow, begun, firstHalf, secondHalf}
 use Rattle.controller.specs.Instruction.{decoded, bit}
 use Rattle.controller.specs.Record.{resetTime, withBusy, withHalf}
-use Rattle.controller.specs.Runs.{State, Sent, after}
+use Rattle.controller.specs.declared.sent.Sent.{Sent}
+use Rattle.controller.specs.Runs.{State, after}
 use Rattle.controller.specs.declared.decision.Decision.{Decision}
 use Rattle.controller.specs.declared.decision.Effect.{Effect}
 use Rattle.controller.specs.declared.decision.Effect.the-variants.{Keep, Store}

@@ -10,7 +10,8 @@ use lib.ListN.{length, getD}
 use Rattle.controller.specs.Cells.{placeOf}
 use Rattle.controller.specs.Halves.{highHalf}
 use Rattle.controller.specs.Record.{sound}
-use Rattle.controller.specs.Runs.{State, Sent, decidedOf, after, toldOf, ran, heard}
+use Rattle.controller.specs.declared.sent.Sent.{Sent}
+use Rattle.controller.specs.Runs.{State, decidedOf, after, toldOf, ran, heard}
 use Rattle.controller.specs.declared.«record».Half.the-variants.{DataWrite}
 use Rattle.planner.specs.Demand.{AsAsked, Whole, Begun, EachBegun, joined, excepted, NoneBusy, Bytes}
 use Rattle.planner.specs.Wish.{marked}

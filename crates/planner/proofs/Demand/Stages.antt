@@ -12,12 +12,13 @@ use lib.Seq.{getD-set-same, getD-set-other}
 use borrow.Author.Tests.{eqb-true, eqb-false, ltb-true, ltb-false, lt-ltb, le-ltb, le-leb, lt-leb, eq-eqb, ne-eqb, not-true}
 use Rattle.controller.proofs.Laws.Choice.{and-left, and-right}
 use Rattle.controller.proofs.Theorems.Cells.{addresses-match, wraps}
-use Rattle.controller.specs.Cells.{placeOf, byteAt, wrapped, stepped, cellOfAdd, addOfCell, cellOfAcg}
+use Rattle.controller.specs.Cells.{placeOf, byteUnder, wrapped, stepped, cellOfAdd, addOfCell, cellOfAcg}
 use Rattle.controller.specs.Decision.{performed, done}
 use Rattle.controller.specs.Execute.{shortTime, longTime, loaded, changed, shifted, homed, addressed, executed, carried, written}
 use Rattle.controller.specs.Instruction.{decoded, bit}
 use Rattle.controller.specs.Record.{withBusy, withFunction, withControl, withEntry, withCounter, withRegister}
-use Rattle.controller.specs.Runs.{State, Sent, after}
+use Rattle.controller.specs.declared.sent.Sent.{Sent}
+use Rattle.controller.specs.Runs.{State, after}
 use Rattle.controller.specs.declared.cells.Counter.{Counter}
 use Rattle.controller.specs.declared.cells.Counter.the-variants.{Display, Pattern}
 use Rattle.controller.specs.declared.decision.Decision.{Decision}

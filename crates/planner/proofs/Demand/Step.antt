@@ -20,8 +20,10 @@ use Rattle.controller.specs.Cells.{placeOf}
 use Rattle.controller.specs.Decision.{performed}
 use Rattle.controller.specs.Halves.{accepted}
 use Rattle.controller.specs.Record.{sound, waited, withBusy}
-use Rattle.controller.specs.Rows.{Row, Given, transferRows}
-use Rattle.controller.specs.Runs.{State, Sent, decidedOf, after, toldOf}
+use Rattle.controller.specs.Answers.{Row, Given}
+use Rattle.controller.specs.Rows.{transferRows}
+use Rattle.controller.specs.declared.sent.Sent.{Sent}
+use Rattle.controller.specs.Runs.{State, decidedOf, after, toldOf}
 use Rattle.controller.specs.declared.decision.Decision.{Decision}
 use Rattle.controller.specs.declared.decision.Effect.{Effect}
 use Rattle.controller.specs.declared.decision.Effect.the-variants.{Keep, Store}

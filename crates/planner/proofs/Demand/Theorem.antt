@@ -10,11 +10,12 @@ use native.Mathlib.Omega.{arith}
 use lib.Dec.{eqb}
 use lib.ListN.{length, getD}
 use borrow.Author.Tests.{eq-eqb}
-use Rattle.controller.specs.Cells.{placeOf, byteAt}
+use Rattle.controller.specs.Cells.{placeOf, byteUnder}
 use Rattle.controller.specs.Decision.{performed}
 use Rattle.controller.specs.Execute.{shortTime, loaded, changed, executed}
 use Rattle.controller.specs.Record.{sound, withBusy, withControl, withEntry}
-use Rattle.controller.specs.Runs.{State, Sent, after, ran, heard}
+use Rattle.controller.specs.declared.sent.Sent.{Sent}
+use Rattle.controller.specs.Runs.{State, after, ran, heard}
 use Rattle.controller.specs.declared.decision.Decision.{Decision}
 use Rattle.controller.specs.declared.instruction.Instruction.{Instruction}
 use Rattle.controller.specs.declared.«record».Function.{Function}
@@ -27,7 +28,7 @@ use Rattle.planner.proofs.Demand.Safe.{Scene, Inv, Safe, safe-end, all-
 use Rattle.planner.proofs.Demand.Stages.{short-time, entry-byte, control-byte, set-up-safe, shift-safe}
 use Rattle.planner.proofs.Laws.Wish.{worth-small, wish-shift-small, wish-cursor}
 use Rattle.planner.specs.declared.wish.Wish.{Wish}
-use Rattle.planner.specs.Demand.{Whole, EachBegun, joined, halfWrite, excepted, wishedRecord, Stands, NoneBusy, Spared, Bytes, Demand3}
+use Rattle.planner.specs.Demand.{Whole, EachBegun, joined, halfWrite, excepted, wishedRecord, Stands, NoneBusy, Spared, Bytes, CutRuns}
 use Rattle.planner.specs.Plan.{Command, instruction, worth, setUp, counterAt, addressByte, cellsBelow, ending, commands, inHalves, planOf}
 use Rattle.planner.specs.Wish.{isWish, marked, follows}
 
@@ -42,7 +43,7 @@ no-commands k Q s wait q = safe-end k Q s q
 -- Entry Mode, the cursor's address, Display Control
 ending-safe : (k : Scene) (wish : Wish) (wait : ℕ) (s : State) → wish .cursor < 80 → At k wish 144 wait s
     → Safe k (Final k wish) s (inHalves wait (ending wish))
-unfolding performed executed byteAt
+unfolding performed executed byteUnder
 ending-safe k wish wait s below at =
     let n : Bool = wish .function .n in
     let entry : ℕ = 0x04 + worth 0x02 (wish .entry .id) + worth 0x01 (wish .entry .s) in
@@ -125,8 +126,8 @@ spared : (k : Scene) (s : State) → Inv k s → Spared (k .marks) (k .start) (s
 spared k s inv place below no-mark free =
     ⊎-elim (λ first. first) (λ named. absurd (false≢true (sym no-mark ∙ named .0))) (inv .cells place below free)
 
-pub demand-3 : Demand3
-demand-3 wish marks values start cut last is bytes s long begun whole =
+pub cut-runs : CutRuns
+cut-runs wish marks values start cut last is bytes s long begun whole =
     let k : Scene = record { start = start; marks = marks; values = values; bytes = bytes } in
     let all = all-runs k (Final k wish) (planOf wish marks values) (plan-safe k wish is) cut last start (begins k s long) begun whole in
     (all .0 .1, all .1, spared k (ran start (joined cut last)) (all .0 .0))

@@ -7,9 +7,9 @@ use Prim.Native.Nat.{ℕ, _≤_}
 use lib.ListN.{length}
 use borrow.Author.Tests.{le-ltb}
 use Rattle.controller.specs.Bus.{whole}
-use Rattle.controller.specs.declared.decision.Answer.the-variants.{Done}
+use Rattle.controller.specs.declared.answers.Answer.the-variants.{Done}
 use Rattle.planner.specs.declared.wish.Wish.{Wish}
-use Rattle.planner.specs.Bus.{replyTo, wanted}
+use Rattle.planner.specs.Call.{replyTo, wanted}
 use Rattle.planner.specs.Plan.{planOf}
 use Rattle.planner.specs.Wish.{isWish}
 

@@ -9,13 +9,14 @@ use native.Mathlib.Omega.{arith}
 use native.Mathlib.Numerals.{add-one}
 use lib.ListN.{length, set, take, drop, getD, length-append}
 use lib.Seq.{sets, length-sets, sets-eq}
-use Rattle.controller.specs.Runs.{Sent}
+use Rattle.controller.specs.declared.sent.Sent.{Sent}
 use Rattle.planner.specs.Wish.{marked, follows}
 use Rattle.planner.specs.declared.pen.Pen.{Pen}
 use Rattle.planner.specs.declared.wish.Wish.{Wish}
-use Rattle.planner.specs.Bus.{laidOut}
+use Rattle.planner.specs.Call.{laidOut}
 use Rattle.planner.specs.Pen.{timeAfter, Wrote}
-use Rattle.planner.specs.Plan.{Command, timeOf, firstSent, secondSent, inHalves, encoded, sixBytes, instruction, write, addressByte, cell, cellsBelow, opening, commands, planOf}
+use Rattle.controller.specs.Sent.{sixBytes}
+use Rattle.planner.specs.Plan.{Command, timeOf, firstSent, secondSent, inHalves, encoded, instruction, write, addressByte, cell, cellsBelow, opening, commands, planOf}
 
 pub sets-append : (l : List ℕ) (i : ℕ) (a b : List ℕ) → sets l i (a ++ b) ≡ sets (sets l i a) (i + length a) b
 sets-append l i [] b = ap (λ (k : ℕ). sets l k b) (sym (add-zero i))

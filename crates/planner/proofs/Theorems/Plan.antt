@@ -11,22 +11,25 @@ use borrow.Author.Tests.{not-false}
 use Rattle.controller.proofs.Laws.Choice.{cond-elim}
 use lib.ListN.{length, getD, drop, replicate}
 use Rattle.controller.specs.Bus.{whole, badTransfer, mustWait, noHalf, decided, ordered}
-use Rattle.controller.specs.Cells.{placeOf, byteAt, onCell, wrapped, stepped, lineLength, cellOfAdd, addOfCell, cellOfAcg, acgOfCell, addressSet, addressOf}
-use Rattle.controller.specs.Decision.{numberOf, performed, blanked}
+use Rattle.controller.specs.Cells.{placeOf, byteUnder, onCell, wrapped, stepped, lineLength, cellOfAdd, addOfCell, cellOfAcg, acgOfCell, addressSet, addressOf}
+use Rattle.controller.specs.Answers.{numberOf}
+use Rattle.controller.specs.Decision.{performed, blanked}
 use Rattle.controller.specs.Execute.{shortTime, longTime, cursorAt, addressed, executed, carried, written, readOut, statusOf, completed}
 use Rattle.controller.specs.Halves.{begun, firstHalf, crossed, secondHalf, narrow, accepted}
 use Rattle.controller.specs.Instruction.{bit, decoded}
 use Rattle.controller.specs.Record.{resetTime, resetRecord, halfSound, sound, withBusy, withHalf, withFunction}
-use Rattle.controller.specs.Runs.{State, Sent, ran}
-use Rattle.controller.specs.declared.decision.Answer.{Answer}
-use Rattle.controller.specs.declared.decision.Answer.the-variants.{Done}
+use Rattle.controller.specs.declared.sent.Sent.{Sent}
+use Rattle.controller.specs.Runs.{State, ran}
+use Rattle.controller.specs.declared.answers.Answer.{Answer}
+use Rattle.controller.specs.declared.answers.Answer.the-variants.{Done}
 use Rattle.controller.specs.declared.«record».Half.the-variants.{DataWrite}
 use Rattle.planner.proofs.Laws.Count.{plan-bound}
-use Rattle.planner.specs.declared.bus.Planned.{Planned}
+use Rattle.planner.specs.declared.call.Planned.{Planned}
 use Rattle.planner.specs.declared.wish.Wish.{Wish}
-use Rattle.planner.specs.Bus.{Reply, wanted, replyTo, laidOut}
+use Rattle.planner.specs.Call.{Reply, wanted, replyTo, laidOut}
 use Rattle.planner.specs.Demand.{halfWrite, excepted}
-use Rattle.planner.specs.Plan.{Command, worth, counterAt, addressByte, cell, cellsBelow, commands, timeOf, inHalves, planOf, encoded, numberFrom}
+use Rattle.controller.specs.Sent.{numberFrom}
+use Rattle.planner.specs.Plan.{Command, worth, counterAt, addressByte, cell, cellsBelow, commands, timeOf, inHalves, planOf, encoded}
 use Rattle.planner.specs.Theorems.{AtMost468, Reaches468, P12, ExceptionNeeded, BoardSendsPlan, all, readBack}
 use Rattle.planner.specs.Wish.{marksFit, isWish, marked, follows}
 
@@ -46,7 +49,7 @@ waiting : State
 waiting = record { rec = withHalf (DataWrite 4) (withBusy 0 (withFunction false (record { n = false; f = false }) resetRecord)); mem = all 0x20 }
 
 pub exception-needed : ExceptionNeeded
-unfolding waiting excepted halfWrite worth addressByte counterAt addressSet addOfCell acgOfCell cell cellsBelow commands timeOf inHalves planOf marked follows shortTime longTime ran decided ordered whole sound halfSound onCell resetTime resetRecord badTransfer mustWait noHalf accepted begun narrow firstHalf secondHalf crossed numberOf completed executed decoded bit written carried stepped wrapped placeOf byteAt readOut statusOf addressOf cellOfAdd cellOfAcg addressed cursorAt performed blanked
+unfolding waiting excepted halfWrite worth addressByte counterAt addressSet addOfCell acgOfCell cell cellsBelow commands timeOf inHalves planOf marked follows shortTime longTime ran decided ordered whole sound halfSound onCell resetTime resetRecord badTransfer mustWait noHalf accepted begun narrow firstHalf secondHalf crossed completed executed decoded bit written carried stepped wrapped placeOf byteUnder readOut statusOf addressOf cellOfAdd cellOfAcg addressed cursorAt performed blanked
 exception-needed = (waiting, refl, refl, refl, refl, refl)
 
 -- every wait fits its four bytes
@@ -95,13 +98,12 @@ read-back (t ∷ ts) rest small =
 
 -- an answer with another number than 0 is not Done
 other-done : {A : Type 0} (answer : Answer) → answer ≡ Done → (numberOf answer ≡ 0 → ⊥) → A
-unfolding numberOf
 other-done answer e other = absurd (other (ap numberOf e))
 
 -- an accepted call
 accepted-reply : (wish : Wish) (marks values out : List ℕ) → replyTo wish marks values out .answer ≡ Done
     → (isWish wish marks ≡ true) × (replyTo wish marks values out .plan ≡ planOf wish marks values)
-unfolding replyTo numberOf
+unfolding replyTo
 accepted-reply wish marks values out =
     let P : Reply → Type 0 = λ r. r .answer ≡ Done → (isWish wish marks ≡ true) × (r .plan ≡ planOf wish marks values) in
     cond-elim P (not (whole marks)) _ _ (λ _ e. other-done _ e (λ z. omega arith))

@@ -9,14 +9,14 @@ use lib.Dec.{ltb, leb}
 use lib.ListN.{length}
 use borrow.Author.Tests.{ltb-false, leb-false, le-ltb, lt-leb, not-false}
 use Rattle.controller.proofs.Laws.Choice.{cond-elim, cond-map, and-left, and-right}
-use Rattle.controller.proofs.Laws.Rows.{first, given}
+use Rattle.controller.proofs.Laws.Answers.{first, given}
 use Rattle.controller.specs.Bus.{whole}
 use Rattle.controller.specs.Cells.{lineLength}
-use Rattle.controller.specs.Decision.{numberOf}
-use Rattle.controller.specs.declared.decision.Answer.the-variants.{Done, NotWhole, OutputShort, NotWish}
-use Rattle.planner.specs.declared.bus.Planned.{Planned}
+use Rattle.controller.specs.Answers.{numberOf}
+use Rattle.controller.specs.declared.answers.Answer.the-variants.{Done, NotWhole, OutputShort, NotWish}
+use Rattle.planner.specs.declared.call.Planned.{Planned}
 use Rattle.planner.specs.declared.wish.Wish.{Wish}
-use Rattle.planner.specs.Bus.{Reply, wanted, turnedDown, replyTo, laidOut, Meets}
+use Rattle.planner.specs.Call.{Reply, wanted, turnedDown, replyTo, laidOut, Plans}
 use Rattle.planner.specs.Plan.{planOf, encoded}
 use Rattle.planner.specs.Theorems.{planRows, PlanAnswers, MarkAbove, NotWishes, PlanRefusals, OnePlan}
 use Rattle.planner.specs.Wish.{marksFit, isWish}
@@ -27,13 +27,12 @@ numbered r = numberOf (r .answer)
 -- either of two memories of the wrong length
 either : (a b : Bool) (later : Reply) (n : ℕ) → numbered later ≡ n
     → numbered (cond (not a) (turnedDown NotWhole) (cond (not b) (turnedDown NotWhole) later)) ≡ cond (not (a && b)) 2 n
-unfolding numberOf
 either true true later n is = is
 either true false later n is = refl
 either false b later n is = refl
 
 reply-number : (wish : Wish) (marks values out : List ℕ) → numbered (replyTo wish marks values out) ≡ first (planRows wish marks values out)
-unfolding replyTo planRows first numberOf
+unfolding replyTo planRows first
 reply-number wish marks values out =
     either (whole marks) (whole values) _ _
     (cond-map numbered (not (isWish wish marks)) _ _ 13 _ (λ _. refl)
@@ -84,7 +83,7 @@ one-plan wish marks values out a b x y is also = (is .told ∙ sym (also .told),
 
 -- a reply with another number than 0 plans nothing
 none-planned : (wish : Wish) (marks values out : List ℕ) → (numbered (replyTo wish marks values out) ≡ 0 → ⊥) → replyTo wish marks values out .plan ≡ []
-unfolding replyTo numberOf
+unfolding replyTo
 none-planned wish marks values out =
     let P : Reply → Type 0 = λ r. (numbered r ≡ 0 → ⊥) → r .plan ≡ [] in
     cond-elim P (not (whole marks)) _ _ (λ _ _. refl)

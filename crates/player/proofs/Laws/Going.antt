@@ -7,10 +7,9 @@ use native.Mathlib.Omega.{arith}
 use mathlib.Core.Bool.{true, false}
 use lib.ListN.{length, take, drop, length-drop, length-append, drop-of-length-le}
 use lib.Seq.{take-at, drop-at, take-add, drop-drop, take-append-seam, drop-append-seam, length-take-le, take-length, take-all, drop-length}
-use Rattle.controller.specs.Decision.{isDone, numberOf}
+use Rattle.controller.specs.Answers.{isDone, numberOf}
 use borrow.Rule.Slice.PartMut.{putMid, post-is}
-use Rattle.controller.specs.declared.decision.Answer.{Answer}
-use Rattle.controller.specs.declared.decision.Answer.the-variants.{Done, Unsound, NotWhole, BadTransfer, Busy, FirstHalf, NoCell, StaleRead, CrossedHalves, CounterOff, BadSize, OutputShort, BadLine, NotWish}
+use Rattle.controller.specs.declared.answers.Answer.{Answer}
 use Rattle.controller.specs.declared.«record».Record.{Record}
 use Rattle.controller.specs.Record.{sound, resetTime}
 use Rattle.controller.proofs.Laws.Record.{sound-busy}
@@ -18,8 +17,9 @@ use Rattle.controller.proofs.Theorems.Sound.{transfer-keeps-sound}
 use Rattle.lines.proofs.Laws.Lengths.{row-fits}
 use Rattle.lines.proofs.Theorems.Read.{read-is-sayable}
 use Rattle.controller.specs.Runs.{State, decidedOf, after, toldOf}
+use Rattle.controller.proofs.Laws.Answers.{number-below}
 use Rattle.lines.specs.Reading.{lineOf}
-use Rattle.lines.specs.Rows.{row, rowSize}
+use Rattle.lines.specs.ReportText.{row, rowSize}
 use Rattle.player.specs.Session.{sentOf, sessionOf}
 use Rattle.player.specs.Report.{rowsOf}
 use Rattle.lines.specs.declared.reader.Line.{Line}
@@ -28,7 +28,7 @@ use Rattle.player.specs.Playing.{rowAt, Played}
 use Rattle.player.proofs.Laws.Session.{done-is, line-long, session-none, session-more, session-bad, rows-none, rows-last, rows-more}
 use borrow.Author.Tests.{le-ltb}
 use Rattle.lines.specs.declared.writer.Written.{Written}
-use Rattle.lines.specs.Writing.{onto, writing, wanting, Meets}
+use Rattle.lines.specs.Writing.{onto, writing, wanting, Writes}
 
 -- a part of the report written after the part before it
 pub part-next : (rows out₀ out : List ℕ) (at : ℕ) (more rest : List ℕ) → at ≤ length rows → at ≤ length out₀
@@ -46,31 +46,13 @@ pub part-left : (rows : List ℕ) (at : ℕ) (more rest : List ℕ) → drop at 
 part-left rows at more rest left = sym (drop-drop (length more) at rows) ∙ ap (drop (length more)) left ∙ drop-append-seam more rest
 
 -- a call that writes a text, with the buffer that it wants
-pub writes : (size : ℕ) (text out : List ℕ) {told : Written} {after : List ℕ} → size ≤ length out → Meets (wanting size text out) out told after
+pub writes : (size : ℕ) (text out : List ℕ) {told : Written} {after : List ℕ} → size ≤ length out → Writes (wanting size text out) out told after
     → (told .length ≡ length text) × (after ≡ onto text out)
 unfolding wanting
 writes size text out enough meets =
     let is : wanting size text out ≡ writing text = simp (le-ltb (length out) size enough) in
     let done = rw is at meets in
     (ap (λ (w : Written). w .length) (done .told), done .buffer)
-
--- an answer's number has at most two digits
-number-below : (answer : Answer) → numberOf answer < 100
-unfolding numberOf
-number-below Done = omega arith
-number-below Unsound = omega arith
-number-below NotWhole = omega arith
-number-below BadTransfer = omega arith
-number-below Busy = omega arith
-number-below FirstHalf = omega arith
-number-below NoCell = omega arith
-number-below StaleRead = omega arith
-number-below CrossedHalves = omega arith
-number-below CounterOff = omega arith
-number-below BadSize = omega arith
-number-below OutputShort = omega arith
-number-below BadLine = omega arith
-number-below NotWish = omega arith
 
 -- the row of a sound record fits
 pub row-small : (number : ℕ) (answer : Answer) (byte : ℕ) (rec : Record) → number < 10 ^ 20 → sound rec ≡ true
@@ -220,7 +202,7 @@ module _ {text : List ℕ} {begin : State} {out₀ : List ℕ} {state : State} {
   inside = let s = g .same in let r = g .room in omega arith
 
   pub line-stops : {n : ℕ} {told : Written} {part : List ℕ} → isDone (line .answer) ≡ false → n ≡ numberOf (line .answer)
-      → Meets (wanting 42 (row number n 0 (state .rec .busy)) (take (length out - at) (drop at out))) (take (length out - at) (drop at out)) told part
+      → Writes (wanting 42 (row number n 0 (state .rec .busy)) (take (length out - at) (drop at out))) (take (length out - at) (drop at out)) told part
       → Stopped text begin out₀ out at (told .length) part
   line-stops {n} {told} {part} bad is meets =
       let last = row number (numberOf (lineOf (drop from text) .answer)) 0 (state .rec .busy) in

@@ -7,35 +7,19 @@ use Prim.Native.Nat.{ℕ, zero, suc, _+_, _<_, _≤_}
 use native.Mathlib.Omega.{arith}
 use native.Mathlib.Nat.{add-zero}
 use lib.ListN.{length, drop, length-drop}
-use Rattle.controller.specs.declared.decision.Answer.{Answer}
-use Rattle.controller.specs.declared.decision.Answer.the-variants.{Done, Unsound, NotWhole, BadTransfer, Busy, FirstHalf, NoCell, StaleRead, CrossedHalves, CounterOff, BadSize, OutputShort, BadLine, NotWish}
-use Rattle.controller.specs.Decision.{isDone, numberOf}
-use Rattle.controller.specs.Runs.{State, Sent, decidedOf, after, toldOf, heard, ran}
+use Rattle.controller.specs.declared.answers.Answer.{Answer}
+use Rattle.controller.specs.declared.answers.Answer.the-variants.{Done}
+use Rattle.controller.specs.Answers.{isDone, numberOf}
+use Rattle.controller.specs.declared.sent.Sent.{Sent}
+use Rattle.controller.specs.Runs.{State, decidedOf, after, toldOf, heard, ran}
+use Rattle.controller.proofs.Laws.Answers.{done-is}
 use Rattle.lines.specs.Reading.{lineOf}
-use Rattle.lines.specs.Rows.{row}
+use Rattle.lines.specs.ReportText.{row}
 use Rattle.lines.proofs.Laws.Digits.{either}
 use Rattle.lines.proofs.Theorems.Read.{read-is-sayable}
-use Rattle.player.specs.Session.{Session, ending, following, sentOf, readUpTo, sessionOf}
+use Rattle.player.specs.Session.{Session, endedBy, following, sentOf, readUpTo, sessionOf}
 use Rattle.player.specs.Report.{rowsFrom, lastRow, rowsOf}
 use Rattle.player.specs.Playing.{rowAt}
-
--- only Done has the number 0
-pub done-is : (answer : Answer) → isDone answer ≡ true → answer ≡ Done
-unfolding numberOf
-done-is Done e = refl
-done-is Unsound e = absurd (false≢true e)
-done-is NotWhole e = absurd (false≢true e)
-done-is BadTransfer e = absurd (false≢true e)
-done-is Busy e = absurd (false≢true e)
-done-is FirstHalf e = absurd (false≢true e)
-done-is NoCell e = absurd (false≢true e)
-done-is StaleRead e = absurd (false≢true e)
-done-is CrossedHalves e = absurd (false≢true e)
-done-is CounterOff e = absurd (false≢true e)
-done-is BadSize e = absurd (false≢true e)
-done-is OutputShort e = absurd (false≢true e)
-done-is BadLine e = absurd (false≢true e)
-done-is NotWish e = absurd (false≢true e)
 
 -- a line that stands has at least 7 bytes, all of them in the text
 pub line-long : (text : List ℕ) → isDone (lineOf text .answer) ≡ true → (7 ≤ lineOf text .length) × (lineOf text .length ≤ length text)
@@ -60,7 +44,7 @@ read-fuel (suc k) (suc j) (byte ∷ rest) a b =
     simp e (ap (following (sentOf (lineOf text))) (read-fuel k j (drop (lineOf text .length) text) (omega arith) (omega arith))))
     (λ e. simp e)
 
-pub session-none : sessionOf [] ≡ ending Done
+pub session-none : sessionOf [] ≡ endedBy Done
 unfolding sessionOf readUpTo
 session-none = refl
 
@@ -76,17 +60,17 @@ session-more (byte ∷ rest) some e =
     (ap (following (sentOf (lineOf text)))
     (read-fuel (length rest) (length (drop (lineOf text .length) text)) (drop (lineOf text .length) text) (omega arith) (omega arith)))
 
-pub session-bad : (text : List ℕ) → 0 < length text → isDone (lineOf text .answer) ≡ false → sessionOf text ≡ ending (lineOf text .answer)
+pub session-bad : (text : List ℕ) → 0 < length text → isDone (lineOf text .answer) ≡ false → sessionOf text ≡ endedBy (lineOf text .answer)
 unfolding sessionOf readUpTo
 session-bad [] some e = absurd (omega arith)
 session-bad (byte ∷ rest) some e = simp e
 
-pub rows-none : (number : ℕ) (state : State) → rowsOf number state (ending Done) ≡ []
-unfolding rowsOf rowsFrom heard lastRow numberOf
+pub rows-none : (number : ℕ) (state : State) → rowsOf number state (endedBy Done) ≡ []
+unfolding rowsOf rowsFrom heard lastRow
 rows-none number state = refl
 
 pub rows-last : (number : ℕ) (state : State) (answer : Answer) → isDone answer ≡ false
-    → rowsOf number state (ending answer) ≡ row number (numberOf answer) 0 (state .rec .busy)
+    → rowsOf number state (endedBy answer) ≡ row number (numberOf answer) 0 (state .rec .busy)
 unfolding rowsOf rowsFrom heard ran lastRow
 rows-last number state answer e = simp (e, add-zero)
 

@@ -8,16 +8,17 @@ use native.Mathlib.Nat.{add-zero}
 use native.Mathlib.Omega.{arith}
 use lib.ListN.{length, take, drop, length-drop, drop-of-length-le}
 use lib.Seq.{drop-drop}
-use Rattle.controller.specs.declared.decision.Answer.{Answer}
-use Rattle.controller.specs.declared.decision.Answer.the-variants.{Done}
+use Rattle.controller.specs.declared.answers.Answer.{Answer}
+use Rattle.controller.specs.declared.answers.Answer.the-variants.{Done}
 use Rattle.controller.specs.declared.decision.Outcome.{Outcome}
-use Rattle.controller.specs.Bus.{Meets}
-use Rattle.controller.specs.Runs.{State, Sent, decidedOf, after, ran}
+use Rattle.controller.specs.Bus.{Performs}
+use Rattle.controller.specs.declared.sent.Sent.{Sent}
+use Rattle.controller.specs.Runs.{State, decidedOf, after, ran}
 use Rattle.controller.proofs.Laws.Memory.{performed-length}
-use Rattle.controller.specs.Decision.{isDone}
+use Rattle.controller.specs.Answers.{isDone}
 use Rattle.lines.specs.declared.reader.Line.{Line}
 use Rattle.lines.specs.Reading.{lineOf}
-use Rattle.player.specs.Session.{Session, ending, following, sentOf, sessionOf}
+use Rattle.player.specs.Session.{Session, endedBy, following, sentOf, sessionOf}
 use Rattle.player.specs.Report.{start}
 use Rattle.player.specs.Standing.{leaving, standing}
 use Rattle.player.proofs.Laws.Going.{tail}
@@ -25,7 +26,7 @@ use Rattle.player.proofs.Laws.Session.{line-long, session-none, session
 
 -- no transfer leaves the controller as it is
 leaving-last : (number : ℕ) (state : State) (answer : Answer)
-    → leaving number state (ending answer) ≡ record { answer = answer; number = number; rec = state .rec; memory = state .mem }
+    → leaving number state (endedBy answer) ≡ record { answer = answer; number = number; rec = state .rec; memory = state .mem }
 unfolding leaving ran
 leaving-last number state answer = simp add-zero
 
@@ -79,13 +80,13 @@ module _ {text : List ℕ} {state : State} {number from : ℕ} (g : Through text
     through-stops bad =
         let own : isDone (lineOf (drop from text) .answer) ≡ false = ap (λ (l : Line). isDone (l .answer)) (sym is-line) ∙ bad in
         sym (leaving-last number state (line .answer))
-        ∙ ap (λ (l : Line). leaving number state (ending (l .answer))) is-line
+        ∙ ap (λ (l : Line). leaving number state (endedBy (l .answer))) is-line
         ∙ ap (leaving number state) (sym (session-bad (drop from text) more-text own))
         ∙ g .left
 
     -- after one line more
     pub through-goes : {told : Outcome} {mem : List ℕ} → isDone (line .answer) ≡ true
-        → Meets (decidedOf state (sentOf line)) (state .mem) told mem
+        → Performs (decidedOf state (sentOf line)) (state .mem) told mem
         → (0 < line .length) × Through text (record { rec = told .rec; mem = mem }) (number + 1) (from + line .length)
     through-goes {told} {mem} good meets =
         let l = lineOf (drop from text) in

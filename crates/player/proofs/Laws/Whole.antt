@@ -17,21 +17,21 @@ use Rattle.controller.specs.Cells.{onCell}
 use Rattle.controller.specs.Record.{sound, resetRecord, resetTime, halfSound}
 use Rattle.controller.specs.Runs.{State}
 use Rattle.lines.specs.declared.writer.Written.{Written}
-use Rattle.lines.specs.Rows.{header}
-use Rattle.lines.specs.Writing.{onto, wanting, Meets}
+use Rattle.lines.specs.ReportText.{header}
+use Rattle.lines.specs.Writing.{onto, wanting, Writes}
 use Rattle.player.specs.Session.{sessionOf}
 use Rattle.player.specs.Report.{rowsOf, start, report}
 use Rattle.player.specs.Playing.{Plays}
 use Rattle.player.proofs.Laws.Going.{writes, tail, tail-back}
 
 -- a reset of 144 zeros is the start of every report
-pub reset-starts : (rec : Record) {told : Outcome} {mem : List ℕ} → bus.Meets (resetDecided rec (replicate 144 0)) (replicate 144 0) told mem
+pub reset-starts : (rec : Record) {told : Outcome} {mem : List ℕ} → bus.Performs (resetDecided rec (replicate 144 0)) (replicate 144 0) told mem
     → record { rec = told .rec; mem = mem } ≡ start
 unfolding resetDecided whole performed blanked
 reset-starts rec {told} {mem} meets = simp (meets .told, meets .memory)
 
 -- the header, where there is room for it
-pub header-done : {out out₁ : List ℕ} {head : Written} → 20 ≤ length out → Meets (wanting 20 header out) out head out₁
+pub header-done : {out out₁ : List ℕ} {head : Written} → 20 ≤ length out → Writes (wanting 20 header out) out head out₁
     → (head .length ≡ 20) × (out₁ ≡ onto header out) × (length out₁ ≡ length out)
 unfolding header
 header-done {out} {out₁} {head} enough meets =
@@ -51,7 +51,7 @@ onto-onto a b out n long =
 
 -- the rows after the header are the whole report
 pub report-done : {text out out₁ : List ℕ} {head : Written} {begin : State} {rows : ℕ} {part : List ℕ} → 20 ≤ length out
-    → Meets (wanting 20 header out) out head out₁ → begin ≡ start
+    → Writes (wanting 20 header out) out head out₁ → begin ≡ start
     → Plays text (begin .rec) (begin .mem) (take (length out₁ - head .length) (drop (head .length) out₁)) rows part
     → (head .length + rows ≡ length (report text))
     × (putMid (head .length) (length out₁ - head .length) out₁ part ≡ onto (report text) out)

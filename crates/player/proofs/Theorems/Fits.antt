@@ -8,9 +8,9 @@ use native.Mathlib.Omega.{arith}
 use lib.ListN.{length, drop, length-append, length-drop}
 use Rattle.controller.specs.Record.{sound}
 use Rattle.controller.specs.Runs.{State, decidedOf, after, toldOf}
-use Rattle.controller.specs.Decision.{isDone}
+use Rattle.controller.specs.Answers.{isDone}
 use Rattle.lines.specs.Reading.{lineOf}
-use Rattle.lines.specs.Rows.{header}
+use Rattle.lines.specs.ReportText.{header}
 use Rattle.lines.proofs.Laws.Digits.{either}
 use Rattle.player.specs.Session.{sentOf, sessionOf}
 use Rattle.player.specs.Report.{rowsOf, start, report}

@@ -8,9 +8,9 @@ use Prim.Native.Nat.{ℕ, zero, suc, _<_, _≤_}
 use native.Mathlib.Omega.{arith}
 use lib.ListN.{length, drop, length-append, length-drop}
 use lib.Seq.{drop-append-seam}
-use Rattle.controller.specs.declared.decision.Answer.the-variants.{Done, BadLine}
-use Rattle.controller.specs.Decision.{isDone, numberOf}
-use Rattle.controller.specs.Runs.{Sent}
+use Rattle.controller.specs.declared.answers.Answer.the-variants.{Done, BadLine}
+use Rattle.controller.specs.Answers.{isDone, numberOf}
+use Rattle.controller.specs.declared.sent.Sent.{Sent}
 use Rattle.lines.specs.declared.reader.Line.{Line}
 use Rattle.lines.specs.Line.{line}
 use Rattle.lines.specs.Reading.{lineOf}
@@ -24,7 +24,6 @@ use Rattle.player.specs.Theorems.{linesOf, AllSayable, SessionReadsBack,
 use Rattle.player.proofs.Laws.Session.{line-long, session-none, session-more, session-bad}
 
 is-done : isDone Done ≡ true
-unfolding numberOf
 is-done = refl
 
 pub session-reads-back : SessionReadsBack

@@ -9,7 +9,7 @@ use lib.ListN.{length, drop, length-drop}
 use Rattle.controller.specs.Record.{sound}
 use Rattle.controller.specs.Runs.{State, decidedOf, after, ran}
 use Rattle.controller.proofs.Laws.Memory.{performed-length}
-use Rattle.controller.specs.Decision.{isDone}
+use Rattle.controller.specs.Answers.{isDone}
 use Rattle.lines.specs.Reading.{lineOf}
 use Rattle.lines.proofs.Laws.Digits.{either}
 use Rattle.player.specs.Session.{sentOf, sessionOf}

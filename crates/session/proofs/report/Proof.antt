@@ -8,12 +8,12 @@ use lib.ListN.{length, drop, length-append}
 use lib.Seq.{length-take-le}
 use borrow.Author.Needs.{needs}
 use Rattle.lines.specs.declared.writer.Written.{Written}
-use Rattle.lines.specs.Writing.{Writing, Meets}
+use Rattle.lines.specs.Writing.{Writing, Writes}
 use Rattle.session.proofs.report.Statement.{statement}
 use Rattle.session.proofs.report.Tie as tie
 
 -- a text that was written into a buffer that keeps its length lies within it
-within : {w : Writing} {before after : List ℕ} {told : Written} → Meets w before told after → length after ≡ length before → told .length ≤ length after
+within : {w : Writing} {before after : List ℕ} {told : Written} → Writes w before told after → length after ≡ length before → told .length ≤ length after
 within {w} {before} {after} {told} meets same =
     omega (
       arith,

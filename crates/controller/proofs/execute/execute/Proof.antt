@@ -1,11 +1,9 @@
--- `controller::execute::execute` meets its contract: each row of the table ends in the case of `executed` that it
--- names, with its counter on a cell.
--- Assumes nothing.
-use Prim.Native.Nat.{ℕ}
-use mathlib.Core.Path.{ap, _∙_}
-use Rattle.controller.specs.Cells.{onCell}
-use Rattle.controller.specs.declared.cells.Counter.the-variants.{Pattern}
 use Rattle.controller.proofs.Laws.Cells.{stepped-on, acg-on, named-within}
+use Rattle.controller.specs.declared.cells.Counter.the-variants.{Pattern}
+use Rattle.controller.specs.Cells.{onCell}
+use Rattle.controller.specs.declared.«record».Record.{Record}
+use mathlib.Core.Path.{ap, _∙_}
+use Prim.Native.Nat.{ℕ}
 use Rattle.controller.specs.Execute.{executed}
 use borrow.Author.Needs.{needs}
 use Rattle.controller.proofs.execute.execute.Statement.{statement}
@@ -96,9 +94,14 @@ enum-known-instruction-6 c = search needs
 cell-of-acg-requires : tie.Need-cell-of-acg-requires
 cell-of-acg-requires c κs = search needs
 
-load-at-requires : tie.Need-load-at-requires
-load-at-requires c κs =
-    (c .before .before .before .before .before .pre .whole, ap (λ (cell : ℕ). onCell (Pattern cell)) (c .cell-of-acg .ensures) ∙ acg-on _)
+place-on-requires : tie.Need-place-on-requires
+place-on-requires c κs = search needs
+
+load-register-requires : tie.Need-load-register-requires
+load-register-requires c κs = (
+  c .before .before .before .before .before .before .pre .whole,
+  ap (λ (r : Record). onCell (r .counter)) (c .place-on .ensures) ∙ ap (λ (cell : ℕ). onCell (Pattern cell)) (c .before .cell-of-acg .ensures) ∙ acg-on _,
+)
 
 change-requires-7 : tie.Need-change-requires-7
 change-requires-7 c κs = search needs
@@ -147,7 +150,7 @@ returns-8 c = simp (c .change6 .ensures, c .before .set-function .ensures, c .be
 
 returns-9 : tie.Need-returns-9
 unfolding executed
-returns-9 c = simp (c .change7 .ensures, c .before .load-at .ensures, c .before .before .cell-of-acg .ensures, c .before .before .before .before .instruction6 .given .1)
+returns-9 c = simp (c .change7 .ensures, c .before .load-register .ensures, c .before .before .place-on .ensures, c .before .before .before .cell-of-acg .ensures, c .before .before .before .before .before .instruction6 .given .1)
 
 returns-10 : tie.Need-returns-10
 unfolding executed
@@ -185,7 +188,8 @@ execute-spec =
     change-requires-6
     enum-known-instruction-6
     cell-of-acg-requires
-    load-at-requires
+    place-on-requires
+    load-register-requires
     change-requires-7
     enum-known-instruction-7
     cell-of-add-requires

@@ -1,6 +1,7 @@
--- `controller::execute::go_to` meets its contract: a display address names a cell below 80 or none.
--- Assumes nothing.
 use Rattle.controller.proofs.Laws.Cells.{display-on}
+use Rattle.controller.specs.Cells.{onCell}
+use Rattle.controller.specs.declared.«record».Record.{Record}
+use mathlib.Core.Path.{ap, _∙_}
 use Rattle.controller.specs.Execute.{addressed}
 use borrow.Author.Needs.{needs}
 use Rattle.controller.proofs.execute.go_to.Statement.{statement}
@@ -9,10 +10,13 @@ use Rattle.controller.proofs.execute.go_to.Tie as tie
 enum-known-named : tie.Need-enum-known-named
 enum-known-named c = search needs
 
-load-at-requires : tie.Need-load-at-requires
-load-at-requires c κs =
-    let pre = c .before .before .before .before .pre in
-    (pre .0, display-on _ (rw (c .before .named .given .1) at (pre .1)))
+place-on-requires : tie.Need-place-on-requires
+place-on-requires c κs = search needs
+
+load-register-requires : tie.Need-load-register-requires
+load-register-requires c κs =
+    let pre = c .before .before .before .before .before .pre in
+    (pre .0, ap (λ (r : Record). onCell (r .counter)) (c .place-on .ensures) ∙ display-on _ (rw (c .before .before .named .given .1) at (pre .1)))
 
 change-requires : tie.Need-change-requires
 change-requires c κs = search needs
@@ -25,7 +29,7 @@ refuse-requires c κs = search needs
 
 returns : tie.Need-returns
 unfolding addressed
-returns c = simp (c .change .ensures, c .before .load-at .ensures, c .before .before .before .named .given .1)
+returns c = simp (c .change .ensures, c .before .load-register .ensures, c .before .before .place-on .ensures, c .before .before .before .before .named .given .1)
 
 returns-2 : tie.Need-returns-2
 unfolding addressed
@@ -36,7 +40,8 @@ go-to-spec =
     tie.close
     (tie.spec
     enum-known-named
-    load-at-requires
+    place-on-requires
+    load-register-requires
     change-requires
     enum-told
     refuse-requires

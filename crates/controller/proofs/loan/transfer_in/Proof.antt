@@ -46,7 +46,7 @@ use denote.Signature.{plain}
 use Rattle.controller.specs.declared.decision.Outcome.{Outcome}
 use Rattle.controller.specs.declared.loan.Told.{Told}
 use Rattle.controller.specs.declared.«record».Record.{Record}
-use Rattle.controller.specs.Bus.{decided, Meets as Promised}
+use Rattle.controller.specs.Bus.{decided, Performs as Promised}
 use Rattle.controller.proofs.decision.Outcome as O
 use Rattle.controller.proofs.decision.Outcome.Laws as O′
 use Rattle.controller.proofs.loan.Told as T

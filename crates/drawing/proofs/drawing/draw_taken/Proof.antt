@@ -1,6 +1,6 @@
 -- `drawing::drawing::draw_taken` meets its contract: 11 where the output is short, else the drawing.
 -- Assumes nothing.
-use Rattle.controller.specs.Decision.{isRefusal}
+use Rattle.controller.specs.Answers.{isRefusal}
 use borrow.Author.Tests.{lt-ltb, le-ltb}
 use borrow.Author.Needs.{needs}
 use Rattle.drawing.proofs.drawing.draw_taken.Statement.{statement}

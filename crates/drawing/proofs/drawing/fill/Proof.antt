@@ -6,9 +6,9 @@ use Prim.Native.Nat.{ℕ, _+_, _-_, _≤_}
 use native.Mathlib.Nat.{zero-add}
 use native.Mathlib.Omega.{arith}
 use lib.ListN.{length, set}
-use Rattle.glass.specs.Picture.{painted}
-use Rattle.glass.proofs.Painting.{painted-length, painted-next, painted-none}
-use Rattle.drawing.specs.Drawing.{byteAt}
+use Rattle.dots.specs.Picture.{painted}
+use Rattle.dots.proofs.Painting.{painted-length, painted-next, painted-none}
+use Rattle.drawing.specs.Drawing.{drawnByte}
 use Rattle.drawing.proofs.drawing.fill.Statement.{statement}
 use Rattle.drawing.proofs.drawing.fill.Tie as tie
 
@@ -19,7 +19,7 @@ painted-first f out place {now} {byte} was is = rw zero-add at (painted-next f 0
 
 abbrev Inv-loop : tie.InvT-loop
 Inv-loop form dots memory rec size count out₀ place₀ out place =
-    (place ≤ count) × (out ≡ painted (byteAt form dots memory rec size) 0 place out₀)
+    (place ≤ count) × (out ≡ painted (drawnByte form dots memory rec size) 0 place out₀)
 
 abbrev μ-loop : tie.MeasureT-loop
 μ-loop form dots memory rec size count out₀ place₀ out place = count - place
@@ -27,8 +27,8 @@ abbrev μ-loop : tie.MeasureT-loop
 loop-holds : tie.Need-loop-holds Inv-loop μ-loop
 loop-holds c = (omega arith, painted-none _ _ _)
 
-byte-at-requires : tie.Need-byte-at-requires Inv-loop μ-loop
-byte-at-requires c κs =
+drawn-byte-requires : tie.Need-byte-at-requires Inv-loop μ-loop
+drawn-byte-requires c κs =
     let start = c .before .before .before .before .before in
     (start .pre .0, start .pre .1, rw (sym (start .pre .2)) (c .loop-test .taken))
 
@@ -47,8 +47,8 @@ loop-again : tie.Need-loop-again Inv-loop μ-loop
 loop-again c =
     let args = c .before .before .before .before .before .before .args in (
       omega arith,
-      painted-first (byteAt (args .form) (args .dots .now) (args .memory .now) (args .rec) (args .size)) (args .out .now) (c .before .before .loop .place)
-          (c .before .before .loop .inv .1) (c .byte-at .ensures),
+      painted-first (drawnByte (args .form) (args .dots .now) (args .memory .now) (args .rec) (args .size)) (args .out .now) (c .before .before .loop .place)
+          (c .before .before .loop .inv .1) (c .drawn-byte .ensures),
     )
 
 same-length : tie.Need-same-length Inv-loop μ-loop
@@ -66,7 +66,7 @@ fill-spec =
     Inv-loop
     μ-loop
     loop-holds
-    byte-at-requires
+    drawn-byte-requires
     slice-write-out
     add-place
     loop-less

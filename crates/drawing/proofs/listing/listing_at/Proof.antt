@@ -26,12 +26,12 @@ mul-cell-at c = search needs
 add-cell-at : tie.Need-add-cell-at
 add-cell-at c = search needs
 
-cell-at-requires : tie.Need-cell-at-requires
-cell-at-requires c κs = search needs
+cell-field-requires : tie.Need-cell-at-requires
+cell-field-requires c κs = search needs
 
 returns-3 : tie.Need-returns-3
 unfolding listingAt
-returns-3 c = simp (c .cell-at .ensures, le-ltb _ _ (c .before .if2 .left), ne-eqb _ _ (c .before .before .if1 .left))
+returns-3 c = simp (c .cell-field .ensures, le-ltb _ _ (c .before .if2 .left), ne-eqb _ _ (c .before .before .if1 .left))
 
 pub listing-at-spec : {M : Type 1} → statement M
 listing-at-spec =
@@ -43,5 +43,5 @@ listing-at-spec =
     returns-2
     mul-cell-at
     add-cell-at
-    cell-at-requires
+    cell-field-requires
     returns-3)

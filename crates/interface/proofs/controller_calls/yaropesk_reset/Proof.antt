@@ -1,6 +1,6 @@
 -- `interface::controller_calls::yaropesk_reset` meets its contract: the refusals come in the order of `resetCall`.
 -- Assumes nothing.
-use Rattle.controller.specs.Decision.{numberOf}
+use Rattle.controller.specs.Answers.{numberOf}
 use Rattle.interface.proofs.Laws.Calls.{long}
 use Rattle.interface.specs.ControllerCalls.{resetCall}
 use borrow.Author.Tests.{not-true, not-false}
@@ -16,7 +16,7 @@ same-length : tie.Need-same-length
 same-length c = search needs
 
 returns : tie.Need-returns
-unfolding resetCall numberOf
+unfolding resetCall
 returns c = simp (sym (c .before .is-record-long .ensures) ∙ not-true _ (c .if1 .taken)) (record { told = refl; rec = refl; memory = refl })
 
 is-whole-requires : tie.Need-is-whole-requires
@@ -29,7 +29,7 @@ same-length-3 : tie.Need-same-length-3
 same-length-3 c = search needs
 
 returns-2 : tie.Need-returns-2
-unfolding resetCall numberOf
+unfolding resetCall
 returns-2 c = simp (sym (c .before .is-whole .ensures) ∙ not-true _ (c .if2 .taken), sym (c .before .before .before .before .is-record-long .ensures) ∙ not-false _ (c .before .before .before .if1 .left)) (record { told = refl; rec = refl; memory = refl })
 
 reset-from-requires : tie.Need-reset-from-requires

@@ -1,6 +1,6 @@
 -- `interface::plan_calls::refuse_wish` meets its contract: the refusals come in the order of `wishless`.
 -- Assumes nothing.
-use Rattle.controller.specs.Decision.{numberOf}
+use Rattle.controller.specs.Answers.{numberOf}
 use Rattle.interface.specs.PlanCalls.{wishless}
 use borrow.Author.Tests.{not-true, not-false}
 use mathlib.Core.Path.{sym, _∙_}

@@ -18,12 +18,12 @@ returns c = simp (sym (c .before .is-record-long .ensures) ∙ not-true _ (c .if
 record-from-requires : tie.Need-record-from-requires
 record-from-requires c κs = long _ (sym (c .before .is-record-long .ensures) ∙ not-false _ (c .if1 .left))
 
-read-as-requires : tie.Need-read-as-requires
-read-as-requires c κs = search needs
+read-record-as-requires : tie.Need-read-record-as-requires
+read-record-as-requires c κs = search needs
 
 returns-2 : tie.Need-returns-2
 unfolding recordIn
-returns-2 c = simp (c .read-as .ensures, c .before .record-from .ensures, sym (c .before .before .before .is-record-long .ensures) ∙ not-false _ (c .before .before .if1 .left))
+returns-2 c = simp (c .read-record-as .ensures, c .before .record-from .ensures, sym (c .before .before .before .is-record-long .ensures) ∙ not-false _ (c .before .before .if1 .left))
 
 pub read-record-spec : {M : Type 1} → statement M
-read-record-spec = tie.close (tie.spec is-record-long-requires returns record-from-requires read-as-requires returns-2)
+read-record-spec = tie.close (tie.spec is-record-long-requires returns record-from-requires read-record-as-requires returns-2)

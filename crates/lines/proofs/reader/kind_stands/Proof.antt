@@ -7,25 +7,25 @@ use borrow.Author.Needs.{needs}
 use Rattle.lines.proofs.reader.kind_stands.Statement.{statement}
 use Rattle.lines.proofs.reader.kind_stands.Tie as tie
 
-byte-at-requires : tie.Need-byte-at-requires
-byte-at-requires c κs = search needs
+text-at-requires : tie.Need-text-at-requires
+text-at-requires c κs = search needs
 
 kind-of-requires : tie.Need-kind-of-requires
 kind-of-requires c κs = search needs
 
-byte-at-requires-2 : tie.Need-byte-at-requires-2
-byte-at-requires-2 c κs = search needs
+text-at-requires-2 : tie.Need-text-at-requires-2
+text-at-requires-2 c κs = search needs
 
 returns : tie.Need-returns
 unfolding kindStands
 returns c =
     let kind = c .before .before in
-    simp (sym (c .byte-at2 .ensures), sym (kind .before .byte-at .ensures), sym (kind .kind-of .ensures), lt-ltb _ _ (c .before .if1 .taken))
+    simp (sym (c .text-at2 .ensures), sym (kind .before .text-at .ensures), sym (kind .kind-of .ensures), lt-ltb _ _ (c .before .if1 .taken))
 
 returns-2 : tie.Need-returns-2
 unfolding kindStands
-returns-2 c = simp (sym (c .before .before .byte-at .ensures), sym (c .before .kind-of .ensures), le-ltb _ _ (c .if1 .left))
+returns-2 c = simp (sym (c .before .before .text-at .ensures), sym (c .before .kind-of .ensures), le-ltb _ _ (c .if1 .left))
 
 pub kind-stands-spec : {M : Type 1} → statement M
 kind-stands-spec =
-    tie.close (tie.spec byte-at-requires kind-of-requires byte-at-requires-2 returns returns-2)
+    tie.close (tie.spec text-at-requires kind-of-requires text-at-requires-2 returns returns-2)

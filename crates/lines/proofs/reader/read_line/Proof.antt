@@ -31,20 +31,20 @@ returns-2 : tie.Need-returns-2
 unfolding lineOf
 returns-2 c = simp (c .bad-line2 .ensures, sym (c .before .before .byte-stands .ensures) ∙ not-true _ (c .before .if2 .taken), sym (c .before .before .before .before .kind-stands .ensures) ∙ not-false _ (c .before .before .before .if1 .left))
 
-byte-at-requires : tie.Need-byte-at-requires
-byte-at-requires c κs = search needs
+text-at-requires : tie.Need-text-at-requires
+text-at-requires c κs = search needs
 
 kind-of-requires : tie.Need-kind-of-requires
 kind-of-requires c κs = search needs
 
-byte-at-requires-2 : tie.Need-byte-at-requires-2
-byte-at-requires-2 c κs = search needs
+text-at-requires-2 : tie.Need-text-at-requires-2
+text-at-requires-2 c κs = search needs
 
 worth-of-requires : tie.Need-worth-of-requires
 worth-of-requires c κs = search needs
 
-byte-at-requires-3 : tie.Need-byte-at-requires-3
-byte-at-requires-3 c κs = search needs
+text-at-requires-3 : tie.Need-text-at-requires-3
+text-at-requires-3 c κs = search needs
 
 worth-of-requires-2 : tie.Need-worth-of-requires-2
 worth-of-requires-2 c κs = search needs
@@ -54,8 +54,8 @@ mul-complete c =
     let high = c .before .before in
     let byte = high .before .before .before .before in
     let digits = stands-digits _ (sym (byte .before .byte-stands .ensures) ∙ not-false _ (byte .if2 .left)) in
-    let above : high .worth-of .result < 16 = rw (high .worth-of .ensures, high .before .byte-at2 .ensures) (digits .0) in
-    let below : c .worth-of2 .result < 16 = rw (c .worth-of2 .ensures, c .before .byte-at3 .ensures) (digits .1) in
+    let above : high .worth-of .result < 16 = rw (high .worth-of .ensures, high .before .text-at2 .ensures) (digits .0) in
+    let below : c .worth-of2 .result < 16 = rw (c .worth-of2 .ensures, c .before .text-at3 .ensures) (digits .1) in
     omega arith
 
 add-complete : tie.Need-add-complete
@@ -63,8 +63,8 @@ add-complete c =
     let high = c .before .before in
     let byte = high .before .before .before .before in
     let digits = stands-digits _ (sym (byte .before .byte-stands .ensures) ∙ not-false _ (byte .if2 .left)) in
-    let above : high .worth-of .result < 16 = rw (high .worth-of .ensures, high .before .byte-at2 .ensures) (digits .0) in
-    let below : c .worth-of2 .result < 16 = rw (c .worth-of2 .ensures, c .before .byte-at3 .ensures) (digits .1) in
+    let above : high .worth-of .result < 16 = rw (high .worth-of .ensures, high .before .text-at2 .ensures) (digits .0) in
+    let below : c .worth-of2 .result < 16 = rw (c .worth-of2 .ensures, c .before .text-at3 .ensures) (digits .1) in
     omega arith
 
 complete-requires : tie.Need-complete-requires
@@ -72,7 +72,7 @@ complete-requires c κs = search needs
 
 returns-3 : tie.Need-returns-3
 unfolding lineOf
-returns-3 c = simp (c .complete .ensures, c .before .worth-of2 .ensures, c .before .before .byte-at3 .ensures, c .before .before .before .worth-of .ensures, c .before .before .before .before .byte-at2 .ensures, c .before .before .before .before .before .kind-of .ensures, c .before .before .before .before .before .before .byte-at .ensures, sym (c .before .before .before .before .before .before .before .before .byte-stands .ensures) ∙ not-false _ (c .before .before .before .before .before .before .before .if2 .left), sym (c .before .before .before .before .before .before .before .before .before .before .kind-stands .ensures) ∙ not-false _ (c .before .before .before .before .before .before .before .before .before .if1 .left))
+returns-3 c = simp (c .complete .ensures, c .before .worth-of2 .ensures, c .before .before .text-at3 .ensures, c .before .before .before .worth-of .ensures, c .before .before .before .before .text-at2 .ensures, c .before .before .before .before .before .kind-of .ensures, c .before .before .before .before .before .before .text-at .ensures, sym (c .before .before .before .before .before .before .before .before .byte-stands .ensures) ∙ not-false _ (c .before .before .before .before .before .before .before .if2 .left), sym (c .before .before .before .before .before .before .before .before .before .before .kind-stands .ensures) ∙ not-false _ (c .before .before .before .before .before .before .before .before .before .if1 .left))
 
 pub read-line-spec : {M : Type 1} → statement M
 read-line-spec =
@@ -84,11 +84,11 @@ read-line-spec =
     byte-stands-requires
     bad-line-requires-2
     returns-2
-    byte-at-requires
+    text-at-requires
     kind-of-requires
-    byte-at-requires-2
+    text-at-requires-2
     worth-of-requires
-    byte-at-requires-3
+    text-at-requires-3
     worth-of-requires-2
     mul-complete
     add-complete

@@ -7,8 +7,8 @@ use borrow.Author.Needs.{needs}
 use Rattle.lines.proofs.reader.read_wait.Statement.{statement}
 use Rattle.lines.proofs.reader.read_wait.Tie as tie
 
-byte-at-requires : tie.Need-byte-at-requires
-byte-at-requires c κs = search needs
+text-at-requires : tie.Need-text-at-requires
+text-at-requires c κs = search needs
 
 worth-of-requires : tie.Need-worth-of-requires
 worth-of-requires c κs = search needs
@@ -21,14 +21,14 @@ unfolding waitOf
 returns c =
     let first = c .before .before in
     c .read-rest .ensures
-    ∙ simp (sym (first .before .byte-at .ensures), sym (first .worth-of .ensures), lt-ltb _ _ (c .before .if1 .taken))
+    ∙ simp (sym (first .before .text-at .ensures), sym (first .worth-of .ensures), lt-ltb _ _ (c .before .if1 .taken))
 
 returns-2 : tie.Need-returns-2
 unfolding waitOf
 returns-2 c =
     let first = c .before in
-    simp (sym (first .before .byte-at .ensures), sym (first .worth-of .ensures), le-ltb _ _ (c .if1 .left))
+    simp (sym (first .before .text-at .ensures), sym (first .worth-of .ensures), le-ltb _ _ (c .if1 .left))
 
 pub read-wait-spec : {M : Type 1} → statement M
 read-wait-spec =
-    tie.close (tie.spec byte-at-requires worth-of-requires read-rest-requires returns returns-2)
+    tie.close (tie.spec text-at-requires worth-of-requires read-rest-requires returns returns-2)

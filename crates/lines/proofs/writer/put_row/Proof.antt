@@ -7,7 +7,7 @@ use native.Mathlib.Omega.{arith}
 use lib.ListN.{length, length-append}
 use lib.Seq.{sets}
 use Rattle.lines.specs.Digits.{tab, newline, byteField, numberField}
-use Rattle.lines.specs.Rows.{row}
+use Rattle.lines.specs.ReportText.{row}
 use Rattle.lines.proofs.Laws.Buffer.{sets-next}
 use Rattle.lines.proofs.Laws.Digits.{field-below}
 use Rattle.lines.proofs.Laws.Lengths.{row-length}

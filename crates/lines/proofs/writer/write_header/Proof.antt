@@ -11,7 +11,7 @@ use borrow.Author.Needs.{needs}
 use borrow.Author.Tests.{lt-ltb, le-ltb}
 use lib.ListN.{length, take, getD, length-set}
 use lib.Seq.{sets, take-suc, length-take-le}
-use Rattle.lines.specs.Rows.{header}
+use Rattle.lines.specs.ReportText.{header}
 use Rattle.lines.specs.Writing.{wanting}
 use Rattle.lines.proofs.Laws.Buffer.{sets-more, sets-onto}
 use Rattle.lines.proofs.writer.write_header.Statement.{statement}

@@ -1,7 +1,7 @@
 -- `lines::writer::write_row` meets its contract: a buffer of 42 bytes takes any row.
 -- Assumes nothing.
 use Rattle.lines.specs.Writing.{wanting}
-use Rattle.lines.specs.Rows.{row}
+use Rattle.lines.specs.ReportText.{row}
 use mathlib.Core.Path.{refl, _∙_}
 use native.Mathlib.Omega.{arith}
 use Rattle.lines.proofs.Laws.Buffer.{sets-onto}

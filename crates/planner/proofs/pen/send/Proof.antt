@@ -2,7 +2,8 @@
 -- one command.
 -- Assumes nothing.
 use Rattle.planner.proofs.Laws.Written.{record-after}
-use Rattle.planner.specs.Plan.{Command, firstSent, secondSent, inHalves, sixBytes, encoded}
+use Rattle.controller.specs.Sent.{sixBytes}
+use Rattle.planner.specs.Plan.{Command, firstSent, secondSent, inHalves, encoded}
 use Rattle.planner.specs.Pen.{timeAfter}
 use denote.Ref.{now}
 use lib.Seq.{sets}

@@ -7,7 +7,7 @@ use denote.Ref.{now}
 use lib.ListN.{length}
 use Rattle.controller.specs.declared.decision.Outcome.{Outcome}
 use Rattle.controller.specs.Runs.{toldOf}
-use Rattle.lines.specs.Rows.{row}
+use Rattle.lines.specs.ReportText.{row}
 use Rattle.lines.specs.Writing.{onto}
 use Rattle.player.specs.Playing.{decidedAt, rowAt}
 use Rattle.player.proofs.Laws.Going.{writes}

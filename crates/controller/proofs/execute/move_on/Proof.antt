@@ -1,0 +1,14 @@
+use Rattle.controller.specs.Cells.{stepped}
+use borrow.Author.Needs.{needs}
+use Rattle.controller.proofs.execute.move_on.Statement.{statement}
+use Rattle.controller.proofs.execute.move_on.Tie as tie
+
+step-requires : tie.Need-step-requires
+step-requires c κs = search needs
+
+returns : tie.Need-returns
+unfolding stepped
+returns c = simp (c .before .before .before .step .ensures)
+
+pub move-on-spec : {M : Type 1} → statement M
+move-on-spec = tie.close (tie.spec step-requires returns)

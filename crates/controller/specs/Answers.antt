@@ -1,0 +1,46 @@
+-- The answers of all calls and their numbers, and where a number is given (document 01, "What each number says").
+-- Assumes nothing.
+use mathlib.Core.Bool.{Bool, true, false, not, _||_}
+use mathlib.Core.List.{List, [], _∷_}
+use mathlib.Core.Logic.{_⊎_}
+use mathlib.Core.Path.{_≡_}
+use Prim.Native.Nat.{ℕ}
+use lib.Dec.{eqb}
+use Rattle.controller.specs.declared.answers.Answer.{Answer}
+use Rattle.controller.specs.declared.answers.Answer.the-variants.{Done, Unsound, NotWhole, BadTransfer, Busy, FirstHalf, NoCell, StaleRead, CrossedHalves, CounterOff, BadSize, OutputShort, BadLine, NotWish}
+
+-- The number of each answer.
+abbrev pub numberOf : Answer → ℕ
+numberOf Done = 0
+numberOf Unsound = 1
+numberOf NotWhole = 2
+numberOf BadTransfer = 3
+numberOf Busy = 4
+numberOf FirstHalf = 5
+numberOf NoCell = 6
+numberOf StaleRead = 7
+numberOf CrossedHalves = 8
+numberOf CounterOff = 9
+numberOf BadSize = 10
+numberOf OutputShort = 11
+numberOf BadLine = 12
+numberOf NotWish = 13
+
+-- The answer is 0.
+abbrev pub isDone : Answer → Bool
+isDone answer = eqb (numberOf answer) 0
+
+-- All but 0, 5, 7 and 8 are refusals.
+unfoldable pub isRefusal : Answer → Bool
+isRefusal answer =
+    not (eqb (numberOf answer) 0 || (eqb (numberOf answer) 5 || (eqb (numberOf answer) 7 || eqb (numberOf answer) 8)))
+
+-- A row of the table: its number, and whether it applies.
+pub record Row : Type 0 where
+  pub number : ℕ
+  pub applies : Bool
+
+-- This number is given by these rows: its row applies and none before it does; 0 where none applies.
+unfoldable pub Given : ℕ → List Row → Type 0
+Given n [] = n ≡ 0
+Given n (row ∷ rows) = ((row .applies ≡ true) × (row .number ≡ n)) ⊎ ((row .applies ≡ false) × Given n rows)

@@ -1,0 +1,26 @@
+-- `dots::draw::is_on` meets its contract: in each arm the counter is of that case of `isOn`.
+-- Assumes nothing.
+use Rattle.dots.specs.Picture.{isOn}
+use borrow.Author.Needs.{needs}
+use Rattle.dots.proofs.draw.is_on.Statement.{statement}
+use Rattle.dots.proofs.draw.is_on.Tie as tie
+
+enum-known-counter : tie.Need-enum-known-counter
+enum-known-counter c = search needs
+
+cast-result : tie.Need-cast-result
+cast-result c = search needs
+
+enum-told : tie.Need-enum-told
+enum-told c = search needs
+
+returns : tie.Need-returns
+unfolding isOn
+returns c = simp (c .before .counter .given .1)
+
+returns-2 : tie.Need-returns-2
+unfolding isOn
+returns-2 c = simp (c .enum-told .given .1)
+
+pub is-on-spec : {M : Type 1} → statement M
+is-on-spec = tie.close (tie.spec enum-known-counter cast-result enum-told returns returns-2)

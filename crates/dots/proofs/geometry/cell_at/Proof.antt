@@ -1,0 +1,25 @@
+-- `dots::geometry::cell_at` meets its contract: at each return N says how many lines are driven and how long they
+-- are.
+-- Assumes nothing.
+use Rattle.controller.specs.Cells.{lineLength}
+use Rattle.dots.specs.Geometry.{drivenLines}
+use borrow.Author.Needs.{needs}
+use Rattle.dots.proofs.geometry.cell_at.Statement.{statement}
+use Rattle.dots.proofs.geometry.cell_at.Tie as tie
+
+cell-in-requires : tie.Need-cell-in-requires
+cell-in-requires c κs = search needs
+
+returns : tie.Need-returns
+unfolding drivenLines lineLength
+returns c = simp (c .cell-in .ensures, c .before .if1 .taken)
+
+cell-in-requires-2 : tie.Need-cell-in-requires-2
+cell-in-requires-2 c κs = search needs
+
+returns-2 : tie.Need-returns-2
+unfolding drivenLines lineLength
+returns-2 c = simp (c .cell-in2 .ensures, c .before .if1 .left)
+
+pub cell-at-spec : {M : Type 1} → statement M
+cell-at-spec = tie.close (tie.spec cell-in-requires returns cell-in-requires-2 returns-2)

@@ -1,0 +1,94 @@
+-- The dots of a picture and the call that draws it, with its refusals in order (document 01, "The dots", "What each number
+-- says").
+-- Assumes nothing.
+use mathlib.Core.Bool.{Bool, false, cond, not, _&&_, _||_}
+use mathlib.Core.List.{List}
+use mathlib.Core.Path.{_≡_}
+use Prim.Native.Nat.{ℕ, zero, suc, _+_, _*_, _/_, _%_, _<_}
+use lib.Dec.{ltb, eqb}
+use lib.ListN.{length, getD, set}
+use Rattle.controller.specs.declared.cells.Counter.{Counter}
+use Rattle.controller.specs.declared.cells.Counter.the-variants.{Display, Pattern}
+use Rattle.controller.specs.declared.answers.Answer.{Answer}
+use Rattle.controller.specs.declared.answers.Answer.the-variants.{Done, Unsound, NotWhole, BadSize, OutputShort}
+use Rattle.controller.specs.declared.«record».Control.{Control}
+use Rattle.controller.specs.declared.«record».Record.{Record}
+use Rattle.controller.specs.Bus.{whole}
+use Rattle.controller.specs.Answers.{numberOf, isRefusal}
+use Rattle.controller.specs.Record.{sound}
+use Rattle.dots.specs.declared.geometry.Shown.{Shown}
+use Rattle.dots.specs.declared.geometry.Shown.the-variants.{Cell, Undriven}
+use Rattle.dots.specs.Font.{font, tableRow}
+use Rattle.dots.specs.Geometry.{fitsGlass, height, sizeOf, cellAt}
+
+-- Pattern (code modulo 8), low five bits. The pattern cells stand behind the 80 display cells, eight to a pattern.
+unfoldable pub patternRow : List ℕ → ℕ → ℕ → ℕ
+patternRow mem code row = getD mem (80 + code % 8 * 8 + row) 0 % 32
+
+-- Codes 00h to 0Fh show a pattern, other codes come from the table of shapes.
+unfoldable pub rowOf : List ℕ → List ℕ → ℕ → ℕ → ℕ
+rowOf shapes mem code row = cond (ltb code 0x10) (patternRow mem code row) (tableRow shapes code row)
+
+-- The counter is on this display cell.
+unfoldable pub isOn : Counter → ℕ → Bool
+isOn (Display at) cell = eqb at cell
+isOn (Pattern at) cell = false
+
+-- Under the counter, C=1 sets the last row, and B=1 in the lit phase every row.
+unfoldable pub cursorSets : Control → Bool → ℕ → ℕ → Bool
+cursorSets control lit rows row = (control .c && eqb (row + 1) rows) || (control .b && lit)
+
+-- The cursor or the blinking covers this row of this cell.
+unfoldable pub covered : Record → Bool → ℕ → ℕ → Bool
+covered rec lit row cell = isOn (rec .counter) cell && cursorSets (rec .control) lit (height (rec .function)) row
+
+-- One row of a display cell: all five dots where it is covered, else the row of the cell's code.
+unfoldable pub cellRow : List ℕ → Record → List ℕ → Bool → ℕ → ℕ → ℕ
+cellRow shapes rec mem lit row cell = cond (covered rec lit row cell) 0b11111 (rowOf shapes mem (getD mem cell 0) row)
+
+-- A line that is not driven is zero.
+unfoldable pub shownRow : List ℕ → Record → List ℕ → Bool → ℕ → Shown → ℕ
+shownRow shapes rec mem lit row (Cell cell) = cellRow shapes rec mem lit row cell
+shownRow shapes rec mem lit row Undriven = 0
+
+-- The five dots at a line, a row and a column, bit 4 leftmost. D=0: all zero.
+unfoldable pub dotsAt : List ℕ → Record → List ℕ → Bool → ℕ → ℕ → ℕ → ℕ
+dotsAt shapes rec mem lit line row column =
+    cond (rec .control .d) (shownRow shapes rec mem lit row (cellAt (rec .function .n) (rec .shift) line column)) 0
+
+-- Output byte (line x 8 + row) x columns + column holds the five dots at line, row and column.
+unfoldable pub pictureByte : List ℕ → Record → List ℕ → Bool → ℕ → ℕ → ℕ
+pictureByte shapes rec mem lit columns at =
+    dotsAt shapes rec mem lit (at / columns / height (rec .function)) (at / columns % height (rec .function)) (at % columns)
+
+-- Bytes start to start + count - 1 become f of their place; all others stay.
+unfoldable pub painted : (ℕ → ℕ) → ℕ → ℕ → List ℕ → List ℕ
+painted f start zero out = out
+painted f start (suc count) out = set (painted f start count out) (start + count) (f (start + count))
+
+-- The answer, the refusals in their order: 1, 2, 10, 11. `room` is the length of the output.
+unfoldable pub answered : Record → List ℕ → ℕ → ℕ → ℕ → Answer
+answered rec mem columns lines room =
+    cond (not (sound rec)) Unsound
+    (cond (not (whole mem)) NotWhole
+    (cond (not (fitsGlass columns lines)) BadSize
+    (cond (ltb room (sizeOf (rec .function) columns lines)) OutputShort
+    Done)))
+
+-- The output left behind: as found on a refusal, else the picture, later bytes as found.
+unfoldable pub output : Record → List ℕ → ℕ → ℕ → Bool → List ℕ → List ℕ
+output rec mem columns lines lit out =
+    cond (isRefusal (answered rec mem columns lines (length out))) out
+    (painted (pictureByte font rec mem lit columns) 0 (sizeOf (rec .function) columns lines) out)
+
+-- What `picture` promises: the answer, its number in the table, and every byte of the output.
+pub record Pictured (rec : Record) (mem : List ℕ) (columns lines : ℕ) (lit : Bool) (before : List ℕ) (answer : Answer) (after : List ℕ) : Type 0 where
+  pub told : answer ≡ answered rec mem columns lines (length before)
+  pub number : numberOf answer ≡ numberOf (answered rec mem columns lines (length before))
+  pub out : after ≡ output rec mem columns lines lit before
+
+-- What the functions that draw lean on: of a sound record the shift, and the lengths of the table and of the memory.
+pub record Drawable (shapes : List ℕ) (rec : Record) (mem : List ℕ) : Type 0 where
+  pub table : length shapes ≡ 2048
+  pub shift : rec .shift < 80
+  pub whole : length mem ≡ 144
