@@ -7,3 +7,4 @@ pub mod Completed
 pub mod Kept
 pub mod Taken
 pub mod Memory
+pub mod Sent

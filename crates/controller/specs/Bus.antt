@@ -29,7 +29,7 @@ unfoldable pub badTransfer : ℕ → ℕ → Bool
 badTransfer kind byte = ltb 3 kind || (leb 2 kind && ltb 0 byte)
 
 -- No half is waiting.
-unfoldable pub noHalf : Half → Bool
+abbrev pub noHalf : Half → Bool
 noHalf Empty = true
 noHalf (InstructionWrite high) = false
 noHalf (DataWrite high) = false

@@ -18,7 +18,7 @@ use Rattle.planner.specs.declared.call.Planned.{Planned}
 use Rattle.planner.specs.declared.wish.Wish.{Wish}
 use Rattle.planner.specs.Call.{replyTo, wanted, Plans}
 use Rattle.planner.specs.Demand.{Bytes, excepted}
-use Rattle.controller.specs.Sent.{numberFrom}
+use Rattle.controller.specs.Sent.{sentAt}
 use Rattle.planner.specs.Plan.{single, planOf}
 use Rattle.planner.specs.Wish.{isWish}
 
@@ -108,15 +108,6 @@ abbrev pub ExceptionNeeded : Type 0
 ExceptionNeeded =
     (start : State) × (sound (start .rec) ≡ true) × (length (start .mem) ≡ 144) × (excepted (start .rec) 0 ≡ true)
     × (getD (start .mem) 0 0 ≡ 0x20) × (getD (ran start (planOf plainWish (all 0) (all 0)) .mem) 0 0 ≡ 0x43)
-
--- The record of six bytes at the start of a buffer, read as a transfer: kind, byte, wait little-endian.
-abbrev pub sentAt : List ℕ → Sent
-sentAt bytes =
-    record {
-      kind = getD bytes 0 0;
-      byte = getD bytes 1 0;
-      wait = numberFrom (getD bytes 2 0) (getD bytes 3 0) (getD bytes 4 0) (getD bytes 5 0);
-    }
 
 -- The first records of a buffer, read as transfers.
 unfoldable pub readBack : ℕ → List ℕ → List Sent

@@ -82,7 +82,7 @@ wide-none wide busy (DataRead byte) w s = absurd (false≢true (simp w at s))
 
 narrow-kept : (mem : List ℕ) (kind byte : ℕ) (half : Half) (rec : Record) → rec .half ≡ half → byte < 256 → rec .wide ≡ false → length mem ≡ 144
     → sound rec ≡ true → mustWait kind rec ≡ false → Kept mem (narrow mem kind byte half rec)
-unfolding narrow noHalf
+unfolding narrow
 narrow-kept mem kind byte Empty rec e below thin long s may = first-kept mem kind byte rec below thin (rw e) s may
 narrow-kept mem kind byte (InstructionWrite high) rec e below thin long s may = second-kept mem _ _ rec long s
 narrow-kept mem kind byte (DataWrite high) rec e below thin long s may = second-kept mem _ _ rec long s

@@ -100,7 +100,7 @@ first-number (Read byte) rec = refl
 accepted-number : (mem : List ℕ) (kind byte : ℕ) (rec : Record)
     → numbered (accepted mem kind byte rec)
     ≡ cond (isFirst rec) 5 (cond (completeIs lacksCell kind byte rec) 6 (cond (completeIs readsStale kind byte rec) 7 (cond (isCrossed kind rec) 8 0)))
-unfolding accepted narrow isFirst completeIs isCrossed secondIs otherKind noHalf
+unfolding accepted narrow isFirst completeIs isCrossed secondIs otherKind
 accepted-number mem kind byte rec = go (rec .wide) (rec .half)
   where
     go : (wide : Bool) (half : Half)

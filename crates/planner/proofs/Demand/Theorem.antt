@@ -12,8 +12,8 @@ use lib.ListN.{length, getD}
 use borrow.Author.Tests.{eq-eqb}
 use Rattle.controller.specs.Cells.{placeOf, byteUnder}
 use Rattle.controller.specs.Decision.{performed}
-use Rattle.controller.specs.Execute.{shortTime, loaded, changed, executed}
-use Rattle.controller.specs.Record.{sound, withBusy, withControl, withEntry}
+use Rattle.controller.specs.Execute.{shortTime, placed, loaded, changed, executed}
+use Rattle.controller.specs.Record.{sound, busyOver, withControl, withEntry}
 use Rattle.controller.specs.declared.sent.Sent.{Sent}
 use Rattle.controller.specs.Runs.{State, after, ran, heard}
 use Rattle.controller.specs.declared.decision.Decision.{Decision}
@@ -49,21 +49,21 @@ ending-safe k wish wait s below at =
     let entry : ℕ = 0x04 + worth 0x02 (wish .entry .id) + worth 0x01 (wish .entry .s) in
     let control : ℕ = 0x08 + worth 0x04 (wish .control .d) + worth 0x02 (wish .control .c) + worth 0x01 (wish .control .b) in
     let small = address-small n (wish .cursor) (omega arith) in
-    let d₁ : Decision = changed (withEntry (wish .entry) (withBusy 0 (s .rec))) in
+    let d₁ : Decision = changed (withEntry (wish .entry) (busyOver (s .rec))) in
     let s₁ : State = after s d₁ in
-    let d₂ : Decision = changed (loaded (s .mem) (counterAt (wish .cursor)) (withBusy 0 (s₁ .rec))) in
+    let d₂ : Decision = changed (loaded (s .mem) (placed (counterAt (wish .cursor)) (busyOver (s₁ .rec)))) in
     let s₂ : State = after s₁ d₂ in
-    let d₃ : Decision = changed (withControl (wish .control) (withBusy 0 (s₂ .rec))) in
+    let d₃ : Decision = changed (withControl (wish .control) (busyOver (s₂ .rec))) in
     instruct k (Final k wish) s entry wait shortTime _ d₁ (omega (arith, worth-small 0x02 (wish .entry .id), worth-small 0x01 (wish .entry .s)))
-    (ap (λ (i : Instruction). executed (s .mem) i (withBusy 0 (s .rec))) (entry-byte (wish .entry .id) (wish .entry .s)))
+    (ap (λ (i : Instruction). executed (s .mem) i (busyOver (s .rec))) (entry-byte (wish .entry .id) (wish .entry .s)))
     refl (empty-quiet _ (at .steady .half)) (short-time entry (λ e. omega arith)) (at .inv) (at .steady)
     (λ inv₁. instruct k (Final k wish) s₁ (addressByte n (wish .cursor)) shortTime shortTime _ d₂ (small .0)
-    (address-does (s .mem) n (wish .cursor) (withBusy 0 (s₁ .rec)) (omega arith) (ap (λ (x : Function). x .n) (at .shaped .function)))
+    (address-does (s .mem) n (wish .cursor) (busyOver (s₁ .rec)) (omega arith) (ap (λ (x : Function). x .n) (at .shaped .function)))
     refl (empty-quiet _ (at .steady .half)) (short-time (addressByte n (wish .cursor)) (λ e. omega arith)) inv₁
     (record { busy = le-refl shortTime; narrow = at .steady .narrow; half = at .steady .half })
     (λ inv₂. instruct k (Final k wish) s₂ control shortTime shortTime [] d₃
     (omega (arith, worth-small 0x04 (wish .control .d), worth-small 0x02 (wish .control .c), worth-small 0x01 (wish .control .b)))
-    (ap (λ (i : Instruction). executed (s .mem) i (withBusy 0 (s₂ .rec))) (control-byte (wish .control .d) (wish .control .c) (wish .control .b)))
+    (ap (λ (i : Instruction). executed (s .mem) i (busyOver (s₂ .rec))) (control-byte (wish .control .d) (wish .control .c) (wish .control .b)))
     refl (empty-quiet _ (at .steady .half)) (short-time control (λ e. omega arith)) inv₂
     (record { busy = le-refl shortTime; narrow = at .steady .narrow; half = at .steady .half })
     (λ inv₃. no-commands k (Final k wish) (after s₂ d₃) shortTime (

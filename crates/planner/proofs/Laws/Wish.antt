@@ -41,7 +41,6 @@ wish-cursor wish marks is =
     (and-left _ _ (and-right (ltb (wish .shift) (lineLength (wish .function .n))) _ (and-right (not (wish .function .n && wish .function .f)) _ is)))
 
 length-small : (n : Bool) → lineLength n ≤ 80
-unfolding lineLength
 length-small false = omega arith
 length-small true = omega arith
 

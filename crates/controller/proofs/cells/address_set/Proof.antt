@@ -29,7 +29,6 @@ acg-of-cell-requires : tie.Need-acg-of-cell-requires
 acg-of-cell-requires c κs = search needs
 
 add-result-2 : tie.Need-add-result-2
-unfolding acgOfCell
 add-result-2 c = omega (arith, ap (λ (a : Acg). a .0) (c .before .acg-of-cell .ensures))
 
 returns : tie.Need-returns
