@@ -1,5 +1,4 @@
 // The same transfer on a record that is lent, for a caller who keeps the record in a place of its own.
-ghost use mathlib.Core.Path.{_≡_};
 ghost use Rattle.controller.specs.Bus.{PerformsIn, decided};
 use crate::answers::Answer;
 use crate::bus::transfer;

@@ -3,7 +3,7 @@ ghost use mathlib.Core.Bool.{true};
 ghost use mathlib.Core.Path.{_≡_};
 ghost use Prim.Native.Nat.{_≤_};
 ghost use lib.ListN.{length};
-ghost use Rattle.planner.specs.Call.{Plans, laidOut, replyTo, wanted};
+ghost use Rattle.planner.specs.Call.{Plans, laidOut, replyTo};
 ghost use Rattle.planner.specs.Plan.{planOf};
 ghost use Rattle.planner.specs.Wish.{isWish};
 use crate::commands::end;

@@ -6,14 +6,14 @@ use Prim.Native.Nat.{ℕ, _+_, _-_, _%_, _<_, _≤_}
 use native.Mathlib.Nat.{mod-lt, lt-of-lt-of-le}
 use native.Mathlib.Omega.{arith}
 use lib.Dec.{ltb, leb, lit≤}
-use borrow.Author.Tests.{ltb-true, leb-true, lt-ltb}
-use Rattle.controller.proofs.Laws.Choice.{cond-elim, and-left, and-right}
+use borrow.Author.Tests.{ltb-true, lt-ltb}
+use Rattle.controller.proofs.Laws.Choice.{cond-elim, and-right}
 use Rattle.controller.specs.declared.cells.Add.{Add}
 use Rattle.controller.specs.declared.cells.Acg.{Acg}
 use Rattle.controller.specs.declared.cells.Counter.{Counter}
 use Rattle.controller.specs.declared.cells.Counter.the-variants.{Display, Pattern}
 use Rattle.controller.specs.declared.cells.Named.the-variants.{Cell, Outside}
-use Rattle.controller.specs.Cells.{placeOf, onCell, wrapped, stepped, cellOfAdd, addOfCell, cellOfAcg, acgOfCell, addressOf, Within}
+use Rattle.controller.specs.Cells.{placeOf, onCell, wrapped, stepped, cellOfAdd, addOfCell, cellOfAcg, addressOf, Within}
 
 pub on-display : (cell : ℕ) → onCell (Display cell) ≡ true → cell < 80
 unfolding onCell

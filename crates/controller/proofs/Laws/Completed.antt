@@ -19,7 +19,7 @@ use Rattle.controller.specs.declared.cells.Named.{Named}
 use Rattle.controller.specs.declared.cells.Named.the-variants.{Cell, Outside}
 use Rattle.controller.specs.declared.decision.Decision.{Decision}
 use Rattle.controller.specs.declared.decision.Effect.{Effect}
-use Rattle.controller.specs.declared.decision.Effect.the-variants.{Keep, Store, Blank}
+use Rattle.controller.specs.declared.decision.Effect.the-variants.{Keep, Blank}
 use Rattle.controller.specs.declared.execute.Transfer.{Transfer}
 use Rattle.controller.specs.declared.execute.Transfer.the-variants.{Instruct, Write, Status, Read}
 use Rattle.controller.specs.declared.instruction.Instruction.{Instruction}

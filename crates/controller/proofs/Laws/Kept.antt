@@ -1,38 +1,28 @@
 -- A sound record stays sound and no effect leaves the memory, whatever is sent: halves, refusals and reset.
 -- Assumes nothing.
-use mathlib.Core.Bool.{Bool, true, false, cond, not, _&&_, and-true, false≢true}
+use mathlib.Core.Bool.{Bool, true, false, not, _&&_, and-true, false≢true}
 use mathlib.Core.List.{List}
 use mathlib.Core.Path.{_≡_, refl}
-use Prim.Native.Nat.{ℕ, _+_, _*_, _/_, _<_, _≤_}
+use Prim.Native.Nat.{ℕ, _/_, _<_}
 use native.Mathlib.Omega.{arith}
 use lib.Dec.{eqb, ltb}
 use lib.ListN.{length}
 use borrow.Author.Tests.{lt-ltb, ltb-false, eqb-true, eqb-false, ne-eqb, not-false}
-use Rattle.controller.proofs.Laws.Cells.{stepped-on, wrapped-below, acg-on, display-on, named-within, place-below}
 use Rattle.controller.proofs.Laws.Choice.{cond-elim}
 use Rattle.controller.proofs.Laws.Completed.{Kept, Idle, completed-carried}
 use Rattle.controller.proofs.Laws.Record.{sound-shift, sound-counter, sound-busy, sound-half, sound-of, waited-sound, whole-length}
-use Rattle.controller.specs.declared.cells.Counter.{Counter}
-use Rattle.controller.specs.declared.cells.Counter.the-variants.{Display, Pattern}
-use Rattle.controller.specs.declared.cells.Named.{Named}
-use Rattle.controller.specs.declared.cells.Named.the-variants.{Cell, Outside}
 use Rattle.controller.specs.declared.decision.Decision.{Decision}
-use Rattle.controller.specs.declared.decision.Effect.{Effect}
-use Rattle.controller.specs.declared.decision.Effect.the-variants.{Keep, Store, Blank}
 use Rattle.controller.specs.declared.execute.Transfer.{Transfer}
 use Rattle.controller.specs.declared.execute.Transfer.the-variants.{Instruct, Write, Status, Read}
-use Rattle.controller.specs.declared.instruction.Instruction.{Instruction}
-use Rattle.controller.specs.declared.instruction.Instruction.the-variants.{Nothing, Clear, Home, SetEntry, SetControl, MoveCursor, ShiftDisplay, SetFunction, PatternAddress, DisplayAddress}
 use Rattle.controller.specs.declared.«record».Half.{Half}
 use Rattle.controller.specs.declared.«record».Half.the-variants.{Empty, InstructionWrite, DataWrite, StatusRead, DataRead}
 use Rattle.controller.specs.declared.«record».Record.{Record}
 use Rattle.controller.specs.Bus.{decided, ordered, resetDecided, whole, badTransfer, mustWait, noHalf}
-use Rattle.controller.specs.Cells.{onCell, stepped, wrapped, cellOfAdd, cellOfAcg, placeOf, Within}
-use Rattle.controller.specs.Decision.{done, refused, Fits}
-use Rattle.controller.specs.Execute.{shortTime, longTime, cursorAt, shifted, addressed, executed, carried, written, readOut, completed, statusOf, placed, movedOn, loaded, homed, changed}
-use Rattle.controller.specs.Halves.{accepted, narrow, begun, firstHalf, secondHalf, ended}
-use Rattle.controller.specs.Instruction.{decoded}
-use Rattle.controller.specs.Record.{resetTime, halfSound, sound, waited, withHalf, withEntry, withControl, withFunction, withRegister}
+use Rattle.controller.specs.Cells.{onCell}
+use Rattle.controller.specs.Decision.{Fits}
+use Rattle.controller.specs.Execute.{completed, statusOf}
+use Rattle.controller.specs.Halves.{accepted, narrow, begun, firstHalf, secondHalf}
+use Rattle.controller.specs.Record.{halfSound, sound, waited, withHalf}
 
 -- a second half ends as what it completes
 second-kept : (mem : List ℕ) (same : Bool) (transfer : Transfer) (rec : Record) → length mem ≡ 144 → sound rec ≡ true

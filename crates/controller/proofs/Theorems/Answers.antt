@@ -5,7 +5,7 @@ use mathlib.Core.List.{List}
 use mathlib.Core.Path.{_≡_, refl, sym, _∙_}
 use Prim.Native.Nat.{ℕ, _-_}
 use native.Mathlib.Omega.{arith}
-use lib.Dec.{leb, eqb}
+use lib.Dec.{leb}
 use Rattle.controller.proofs.Laws.Choice.{cond-elim, cond-map}
 use Rattle.controller.specs.declared.cells.Named.{Named}
 use Rattle.controller.specs.declared.cells.Named.the-variants.{Cell, Outside}
@@ -14,7 +14,6 @@ use Rattle.controller.specs.declared.decision.Decision.{Decision}
 use Rattle.controller.specs.declared.execute.Transfer.{Transfer}
 use Rattle.controller.specs.declared.execute.Transfer.the-variants.{Instruct, Write, Status, Read}
 use Rattle.controller.specs.declared.instruction.Instruction.{Instruction}
-use Rattle.controller.specs.declared.instruction.Instruction.the-variants.{Nothing, Clear, Home, SetEntry, SetControl, MoveCursor, ShiftDisplay, SetFunction, PatternAddress, DisplayAddress}
 use Rattle.controller.specs.declared.answers.Answer.the-variants.{Done, NotWhole, StaleRead}
 use Rattle.controller.specs.declared.decision.Effect.the-variants.{Blank}
 use Rattle.controller.proofs.Laws.Instruction.{decoded-address, decoded-elim}
@@ -23,7 +22,7 @@ use Rattle.controller.specs.declared.«record».Half.{Half}
 use Rattle.controller.specs.declared.«record».Half.the-variants.{Empty, InstructionWrite, DataWrite, StatusRead, DataRead}
 use Rattle.controller.specs.declared.«record».Record.{Record}
 use Rattle.controller.specs.Bus.{decided, ordered, resetDecided, noHalf, whole, badTransfer, mustWait}
-use Rattle.controller.specs.Cells.{onCell, cellOfAdd}
+use Rattle.controller.specs.Cells.{onCell}
 use Rattle.controller.specs.Answers.{numberOf}
 use Rattle.controller.specs.Decision.{refused}
 use Rattle.controller.specs.Execute.{completed, executed, addressed, written, readOut}

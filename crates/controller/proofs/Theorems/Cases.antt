@@ -3,11 +3,9 @@
 use mathlib.Core.Bool.{Bool, true, false, cond, not, and-false}
 use mathlib.Core.List.{List, [], _∷_}
 use mathlib.Core.Path.{_≡_, refl, sym, ap, _∙_}
-use Prim.Native.Nat.{ℕ, _≤_, zero-le}
-use native.Mathlib.Nat.{sub-eq-zero-of-le}
+use Prim.Native.Nat.{ℕ, zero-le}
 use native.Mathlib.Omega.{arith}
-use lib.Dec.{ltb, eqb}
-use lib.ListN.{length, getD, set, length-set}
+use lib.ListN.{length, getD, set}
 use lib.Seq.{getD-set-same}
 use borrow.Author.Tests.{eq-eqb}
 use Rattle.controller.proofs.Laws.Completed.{carried-keeps}
@@ -22,14 +20,12 @@ use Rattle.controller.specs.declared.answers.Answer.{Answer}
 use Rattle.controller.specs.declared.answers.Answer.the-variants.{Done, NoCell, Unsound, BadTransfer}
 use Rattle.controller.specs.declared.decision.Decision.{Decision}
 use Rattle.controller.specs.declared.decision.Effect.the-variants.{Keep}
-use Rattle.controller.specs.declared.execute.Transfer.{Transfer}
-use Rattle.controller.specs.declared.execute.Transfer.the-variants.{Instruct, Write, Status, Read}
 use Rattle.controller.specs.declared.«record».Half.{Half}
-use Rattle.controller.specs.declared.«record».Half.the-variants.{Empty, InstructionWrite, DataWrite, StatusRead, DataRead}
+use Rattle.controller.specs.declared.«record».Half.the-variants.{Empty, InstructionWrite, DataWrite}
 use Rattle.controller.specs.declared.«record».Record.{Record}
-use Rattle.controller.specs.Bus.{decided, ordered, resetDecided, whole, badTransfer, mustWait, noHalf}
+use Rattle.controller.specs.Bus.{decided, ordered, resetDecided, whole, badTransfer, mustWait}
 use Rattle.controller.specs.Cases.{Waits, afterReset, statusRead, dataWrite, P1, WriteLeads, P2, P3, Answers, P4, P6, P8, P9, P10, sentIn11, P11}
-use Rattle.controller.specs.Cells.{onCell, wrapped, stepped, placeOf, byteUnder, addressOf, addOfCell, acgOfCell, cellOfAdd, cellOfAcg}
+use Rattle.controller.specs.Cells.{onCell, wrapped, stepped, placeOf, addressOf, addOfCell, cellOfAdd}
 use Rattle.controller.specs.Answers.{numberOf}
 use Rattle.controller.specs.Decision.{blanked, performed, done, refused}
 use Rattle.controller.specs.Execute.{shortTime, longTime, statusOf, completed, executed, addressed, carried, written, readOut, homed}

@@ -1,36 +1,29 @@
 -- What a refusal leaves: byte 00h, the memory as found, and the record as its row says.
 -- Assumes nothing.
-use mathlib.Core.Bool.{Bool, true, false, cond, not, _&&_, false≢true}
+use mathlib.Core.Bool.{Bool, true, false, not, _&&_, false≢true}
 use mathlib.Core.List.{List}
 use mathlib.Core.Path.{_≡_, refl, sym, ap, _∙_}
 use Prim.Native.Nat.{ℕ, _-_}
-use lib.Dec.{leb}
 use borrow.Author.Tests.{not-false}
 use Rattle.controller.proofs.Laws.Choice.{cond-elim}
 use Rattle.controller.proofs.Laws.Completed.{completed-carried}
 use Rattle.controller.proofs.Laws.Kept.{wide-none}
 use Rattle.controller.proofs.Laws.Record.{sound-half, waited-sound}
-use Rattle.controller.specs.declared.cells.Named.{Named}
-use Rattle.controller.specs.declared.cells.Named.the-variants.{Cell, Outside}
 use Rattle.controller.specs.declared.answers.Answer.{Answer}
-use Rattle.controller.specs.declared.answers.Answer.the-variants.{Done, NotWhole, NoCell, StaleRead}
+use Rattle.controller.specs.declared.answers.Answer.the-variants.{NotWhole, NoCell}
 use Rattle.controller.specs.declared.decision.Decision.{Decision}
-use Rattle.controller.specs.declared.decision.Effect.the-variants.{Blank}
 use Rattle.controller.specs.declared.execute.Transfer.{Transfer}
 use Rattle.controller.specs.declared.execute.Transfer.the-variants.{Instruct, Write, Status, Read}
-use Rattle.controller.specs.declared.instruction.Instruction.{Instruction}
-use Rattle.controller.specs.declared.instruction.Instruction.the-variants.{Nothing, Clear, Home, SetEntry, SetControl, MoveCursor, ShiftDisplay, SetFunction, PatternAddress, DisplayAddress}
 use Rattle.controller.specs.declared.«record».Half.{Half}
 use Rattle.controller.specs.declared.«record».Half.the-variants.{Empty, InstructionWrite, DataWrite, StatusRead, DataRead}
 use Rattle.controller.specs.declared.«record».Record.{Record}
 use Rattle.controller.specs.Bus.{decided, ordered, resetDecided, whole, badTransfer, mustWait}
-use Rattle.controller.specs.Cells.{onCell, cellOfAdd}
-use Rattle.controller.specs.Answers.{numberOf, isDone, isRefusal}
+use Rattle.controller.specs.Cells.{onCell}
+use Rattle.controller.specs.Answers.{isDone, isRefusal}
 use Rattle.controller.specs.Decision.{refused}
-use Rattle.controller.specs.Execute.{completed, executed, addressed, written, readOut}
+use Rattle.controller.specs.Execute.{completed}
 use Rattle.controller.specs.Halves.{accepted, narrow, begun, firstHalf, secondHalf, crossed, ended}
-use Rattle.controller.specs.Instruction.{decoded}
-use Rattle.controller.specs.Record.{sound, waited, withHalf, resetRecord}
+use Rattle.controller.specs.Record.{sound, waited, withHalf}
 use Rattle.controller.specs.Theorems.{left, LeavesAsSaid, TransferRefusals, ResetRefusals}
 
 -- this decision, if it refuses, is a 6 that leaves this record

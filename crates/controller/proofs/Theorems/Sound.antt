@@ -7,7 +7,7 @@ use Rattle.controller.proofs.Laws.Cells.{display-on}
 use Rattle.controller.proofs.Laws.Completed.{idle-sound}
 use Rattle.controller.proofs.Laws.Kept.{decided-kept, decided-fits, reset-fits}
 use Rattle.controller.specs.Bus.{resetDecided}
-use Rattle.controller.specs.Record.{resetRecord, resetTime, sound}
+use Rattle.controller.specs.Record.{resetRecord, sound}
 use Rattle.controller.specs.Theorems.{TransferKeepsSound, ResetMakesSound, EffectsFit}
 
 pub transfer-keeps-sound : TransferKeepsSound

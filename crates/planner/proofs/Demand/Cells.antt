@@ -1,21 +1,21 @@
 -- The marked cells, one by one: before each place the cells below it are written, and inside a run the counter is there.
 -- Assumes nothing.
-use mathlib.Core.Bool.{Bool, true, false, not, _&&_, false≢true}
-use mathlib.Core.List.{List, [], _∷_, _++_, append-assoc}
+use mathlib.Core.Bool.{Bool, true, false, not, false≢true}
+use mathlib.Core.List.{List, _∷_, _++_, append-assoc}
 use mathlib.Core.Logic.{⊎-elim}
 use mathlib.Core.Path.{_≡_, refl, sym, ap, subst, _∙_}
 use Prim.Native.Nat.{ℕ, zero, suc, _+_, _-_, _%_, _≤_, _<_}
 use native.Mathlib.Nat.{le-refl, eq-or-lt-of-le, le-of-suc-le-suc, mod-eq-of-lt}
 use native.Mathlib.Omega.{arith}
-use lib.Dec.{eqb, ltb, leb}
+use lib.Dec.{eqb, ltb}
 use lib.ListN.{length, getD, set}
 use lib.Seq.{getD-set-same, getD-set-other}
-use borrow.Author.Tests.{eqb-true, eqb-false, ltb-true, ltb-false, lt-ltb, le-ltb, le-leb, lt-leb, ne-eqb, eq-eqb, not-true}
+use borrow.Author.Tests.{ltb-true, ltb-false, lt-ltb, le-ltb, le-leb, lt-leb, ne-eqb}
 use Rattle.controller.proofs.Laws.Cells.{address-below, display-on}
-use Rattle.controller.proofs.Laws.Choice.{cond-elim, and-left, and-right}
+use Rattle.controller.proofs.Laws.Choice.{and-right}
 use Rattle.controller.proofs.Laws.Instruction.{decoded-address}
 use Rattle.controller.proofs.Theorems.Cells.{addresses-match, wraps}
-use Rattle.controller.specs.Cells.{placeOf, wrapped, stepped, cellOfAdd, addOfCell, cellOfAcg, acgOfCell, addressSet, addressOf}
+use Rattle.controller.specs.Cells.{placeOf, stepped, cellOfAdd, addOfCell, addressSet, addressOf}
 use Rattle.controller.specs.Decision.{performed, done}
 use Rattle.controller.specs.Execute.{shortTime, placed, movedOn, loaded, changed, addressed, executed, carried, written}
 use Rattle.controller.specs.Instruction.{decoded}
@@ -26,9 +26,8 @@ use Rattle.controller.specs.declared.cells.Add.{Add}
 use Rattle.controller.specs.declared.cells.Counter.{Counter}
 use Rattle.controller.specs.declared.cells.Counter.the-variants.{Display, Pattern}
 use Rattle.controller.specs.declared.cells.Named.{Named}
-use Rattle.controller.specs.declared.cells.Named.the-variants.{Cell}
 use Rattle.controller.specs.declared.decision.Decision.{Decision}
-use Rattle.controller.specs.declared.decision.Effect.the-variants.{Keep, Store}
+use Rattle.controller.specs.declared.decision.Effect.the-variants.{Store}
 use Rattle.controller.specs.declared.instruction.Instruction.{Instruction}
 use Rattle.controller.specs.declared.instruction.Instruction.the-variants.{PatternAddress, DisplayAddress}
 use Rattle.controller.specs.declared.«record».Entry.{Entry}

@@ -1,16 +1,15 @@
 -- A command in two halves, at width 4 with no half waiting, is one operation of its whole byte.
 -- Assumes nothing.
-use mathlib.Core.Bool.{Bool, true, false, cond}
-use mathlib.Core.List.{List, [], _∷_}
-use mathlib.Core.Logic.{_⊎_, inl, inr}
+use mathlib.Core.Bool.{true, false}
+use mathlib.Core.List.{List, _∷_}
+use mathlib.Core.Logic.{inl, inr}
 use mathlib.Core.Path.{_≡_, refl, sym, ap, subst, _∙_}
-use Prim.Native.Nat.{ℕ, _+_, _*_, _/_, _%_, _≤_, _<_, zero-le}
+use Prim.Native.Nat.{ℕ, _+_, _*_, _/_, _≤_, _<_, zero-le}
 use native.Mathlib.Omega.{arith}
 use lib.ListN.{getD}
 use Rattle.controller.proofs.Laws.Taken.{accepted-narrow}
 use Rattle.controller.specs.Bus.{badTransfer}
 use Rattle.controller.specs.Cells.{placeOf}
-use Rattle.controller.specs.Answers.{numberOf}
 use Rattle.controller.specs.Decision.{performed}
 use Rattle.controller.specs.Execute.{completed, executed, written}
 use Rattle.controller.specs.Halves.{highHalf, lowHalf, begun, wholeByte, firstTold, firstHalf, ended, secondHalf, narrow}

@@ -1,13 +1,12 @@
 -- The opening: from whatever state, four single transfers lead to width 4 with no half waiting.
 -- Assumes nothing.
-use mathlib.Core.Bool.{Bool, true, false, cond, false≢true}
-use mathlib.Core.List.{List, [], _∷_, _++_}
+use mathlib.Core.Bool.{Bool, true, false, false≢true}
+use mathlib.Core.List.{List, _∷_, _++_}
 use mathlib.Core.Logic.{_⊎_, inl, inr, ⊎-elim}
 use mathlib.Core.Path.{_≡_, refl, sym, ap, subst, _∙_}
-use Prim.Native.Nat.{ℕ, _+_, _*_, _/_, _≤_, _<_, zero-le}
+use Prim.Native.Nat.{ℕ, _+_, _*_, _≤_, zero-le}
 use native.Mathlib.Nat.{le-refl, le-trans}
 use native.Mathlib.Omega.{arith}
-use lib.Dec.{eqb}
 use Rattle.controller.proofs.Laws.Completed.{short-long, completed-carried, instruct-keeps}
 use Rattle.controller.proofs.Laws.Kept.{wide-none}
 use Rattle.controller.proofs.Laws.Record.{sound-half, sound-busy}
@@ -21,8 +20,7 @@ use Rattle.controller.specs.Record.{resetTime, busyOver, withHalf}
 use Rattle.controller.specs.declared.sent.Sent.{Sent}
 use Rattle.controller.specs.Runs.{State, after}
 use Rattle.controller.specs.declared.decision.Decision.{Decision}
-use Rattle.controller.specs.declared.decision.Effect.{Effect}
-use Rattle.controller.specs.declared.decision.Effect.the-variants.{Keep, Store}
+use Rattle.controller.specs.declared.decision.Effect.the-variants.{Keep}
 use Rattle.controller.specs.declared.execute.Transfer.{Transfer}
 use Rattle.controller.specs.declared.execute.Transfer.the-variants.{Instruct, Write, Status, Read}
 use Rattle.controller.specs.declared.«record».Half.{Half}

@@ -1,14 +1,13 @@
 -- One transfer of a plan: once its wait covers the busy time it is taken, whatever the wait, and what it does is known.
 -- Assumes nothing.
-use mathlib.Core.Bool.{Bool, true, false, not, false≢true}
-use mathlib.Core.List.{List, [], _∷_}
-use mathlib.Core.Logic.{_⊎_, inl, inr, ⊎-elim}
+use mathlib.Core.Bool.{Bool, true, false, false≢true}
+use mathlib.Core.List.{List, _∷_}
 use mathlib.Core.Path.{_≡_, refl, sym, ap, subst, _∙_}
 use Prim.Native.Nat.{ℕ, _+_, _-_, _*_, _≤_, _<_}
-use native.Mathlib.Nat.{le-refl, le-trans, sub-eq-zero-of-le}
+use native.Mathlib.Nat.{le-refl, le-trans}
 use native.Mathlib.Omega.{arith}
 use lib.Dec.{eqb}
-use lib.ListN.{length, getD, set}
+use lib.ListN.{getD, set}
 use lib.Seq.{getD-set-same, getD-set-other}
 use borrow.Author.Tests.{eqb-true, eqb-false}
 use Rattle.controller.proofs.Laws.Memory.{performed-length}
@@ -16,19 +15,18 @@ use Rattle.controller.proofs.Laws.Record.{waited-over}
 use Rattle.controller.proofs.Laws.Taken.{covered, taken}
 use Rattle.controller.proofs.Theorems.Answers.{four-waits}
 use Rattle.controller.proofs.Theorems.Sound.{transfer-keeps-sound}
-use Rattle.controller.specs.Bus.{badTransfer, mustWait}
+use Rattle.controller.specs.Bus.{badTransfer}
 use Rattle.controller.specs.Cells.{placeOf}
 use Rattle.controller.specs.Decision.{performed}
 use Rattle.controller.specs.Halves.{accepted}
-use Rattle.controller.specs.Record.{sound, waited, busyOver}
+use Rattle.controller.specs.Record.{sound, busyOver}
 use Rattle.controller.specs.declared.sent.Sent.{Sent}
-use Rattle.controller.specs.Runs.{State, decidedOf, after, toldOf}
+use Rattle.controller.specs.Runs.{State, decidedOf, after}
 use Rattle.controller.specs.declared.decision.Decision.{Decision}
 use Rattle.controller.specs.declared.decision.Effect.{Effect}
 use Rattle.controller.specs.declared.decision.Effect.the-variants.{Keep, Store}
 use Rattle.controller.specs.declared.«record».Half.the-variants.{DataWrite}
-use Rattle.controller.specs.declared.«record».Record.{Record}
-use Rattle.planner.proofs.Demand.Safe.{Scene, Holds, Inv, Fine, Safe, safe-more}
+use Rattle.planner.proofs.Demand.Safe.{Scene, Holds, Inv, Safe, safe-more}
 use Rattle.planner.specs.Demand.{AsAsked, excepted}
 
 -- what a planned transfer comes to

@@ -1,21 +1,19 @@
 -- Demand 3: the ending, the whole plan, and any number of cut runs of it.
 -- Assumes nothing.
-use mathlib.Core.Bool.{Bool, true, false, _&&_, false≢true}
-use mathlib.Core.List.{List, [], _∷_, _++_}
+use mathlib.Core.Bool.{Bool, true, false, false≢true}
+use mathlib.Core.List.{[]}
 use mathlib.Core.Logic.{inl, ⊎-elim}
 use mathlib.Core.Path.{_≡_, refl, sym, ap, _∙_}
-use Prim.Native.Nat.{ℕ, _+_, _≤_, _<_}
+use Prim.Native.Nat.{ℕ, _+_, _<_}
 use native.Mathlib.Nat.{le-refl, le-trans, not-suc-le-zero}
 use native.Mathlib.Omega.{arith}
-use lib.Dec.{eqb}
 use lib.ListN.{length, getD}
 use borrow.Author.Tests.{eq-eqb}
 use Rattle.controller.specs.Cells.{placeOf, byteUnder}
 use Rattle.controller.specs.Decision.{performed}
 use Rattle.controller.specs.Execute.{shortTime, placed, loaded, changed, executed}
 use Rattle.controller.specs.Record.{sound, busyOver, withControl, withEntry}
-use Rattle.controller.specs.declared.sent.Sent.{Sent}
-use Rattle.controller.specs.Runs.{State, after, ran, heard}
+use Rattle.controller.specs.Runs.{State, after, ran}
 use Rattle.controller.specs.declared.decision.Decision.{Decision}
 use Rattle.controller.specs.declared.instruction.Instruction.{Instruction}
 use Rattle.controller.specs.declared.«record».Function.{Function}
@@ -23,14 +21,14 @@ use Rattle.controller.specs.declared.«record».Half.the-variants.{DataWrite}
 use Rattle.controller.specs.declared.«record».Record.{Record}
 use Rattle.planner.proofs.Demand.Cells.{At, display-at, place-at, address-does, address-small, cells-safe}
 use Rattle.planner.proofs.Demand.Command.{instruct}
-use Rattle.planner.proofs.Demand.Opening.{Steady, empty-quiet, short-covered, opening-safe}
+use Rattle.planner.proofs.Demand.Opening.{empty-quiet, short-covered, opening-safe}
 use Rattle.planner.proofs.Demand.Safe.{Scene, Inv, Safe, safe-end, all-runs}
 use Rattle.planner.proofs.Demand.Stages.{short-time, entry-byte, control-byte, set-up-safe, shift-safe}
 use Rattle.planner.proofs.Laws.Wish.{worth-small, wish-shift-small, wish-cursor}
 use Rattle.planner.specs.declared.wish.Wish.{Wish}
-use Rattle.planner.specs.Demand.{Whole, EachBegun, joined, halfWrite, excepted, wishedRecord, Stands, NoneBusy, Spared, Bytes, CutRuns}
-use Rattle.planner.specs.Plan.{Command, instruction, worth, setUp, counterAt, addressByte, cellsBelow, ending, commands, inHalves, planOf}
-use Rattle.planner.specs.Wish.{isWish, marked, follows}
+use Rattle.planner.specs.Demand.{joined, halfWrite, excepted, Stands, Spared, CutRuns}
+use Rattle.planner.specs.Plan.{worth, counterAt, addressByte, ending, commands, inHalves, planOf}
+use Rattle.planner.specs.Wish.{isWish, follows}
 
 -- what the last run leaves
 abbrev Final : Scene → Wish → State → Type 0

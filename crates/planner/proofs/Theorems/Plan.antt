@@ -1,17 +1,16 @@
 -- The theorems of the plan: its length, P12, the exception, and the bytes read back.
 -- Assumes nothing.
-use mathlib.Core.Bool.{Bool, true, false, not, _&&_}
+use mathlib.Core.Bool.{true, false, not, _&&_}
 use mathlib.Core.List.{List, [], _∷_, _++_}
 use mathlib.Core.Path.{_≡_, refl, sym, ap, _∙_}
-use Prim.Native.Nat.{ℕ, _+_, _*_, _/_, _%_, _≤_, _<_}
-use native.Mathlib.Nat.{div-div-eq-div-mul, mod-add-div, mod-eq-of-lt}
+use Prim.Native.Nat.{ℕ, _+_, _<_}
 use native.Mathlib.Omega.{arith}
 use lib.Dec.{eqb, ltb}
 use borrow.Author.Tests.{not-false}
 use Rattle.controller.proofs.Laws.Choice.{cond-elim}
-use lib.ListN.{length, getD, drop, replicate}
-use Rattle.controller.specs.Bus.{whole, badTransfer, mustWait, noHalf, decided, ordered}
-use Rattle.controller.specs.Cells.{placeOf, byteUnder, onCell, wrapped, stepped, lineLength, cellOfAdd, addOfCell, cellOfAcg, acgOfCell, addressSet, addressOf}
+use lib.ListN.{length, drop}
+use Rattle.controller.specs.Bus.{whole, badTransfer, mustWait, decided, ordered}
+use Rattle.controller.specs.Cells.{placeOf, byteUnder, onCell, wrapped, stepped, cellOfAdd, addOfCell, addressSet, addressOf}
 use Rattle.controller.specs.Answers.{numberOf}
 use Rattle.controller.specs.Decision.{performed, blanked}
 use Rattle.controller.specs.Execute.{shortTime, longTime, cursorAt, addressed, executed, carried, written, readOut, statusOf, completed}

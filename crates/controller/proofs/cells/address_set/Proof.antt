@@ -6,7 +6,7 @@ use native.Mathlib.Omega.{arith}
 use Rattle.controller.proofs.Laws.Cells.{counted-below}
 use Rattle.controller.specs.declared.cells.Acg.{Acg}
 use Rattle.controller.specs.declared.cells.Add.{Add}
-use Rattle.controller.specs.Cells.{acgOfCell, addressSet}
+use Rattle.controller.specs.Cells.{addressSet}
 use borrow.Author.Needs.{needs}
 use Rattle.controller.proofs.cells.address_set.Statement.{statement}
 use Rattle.controller.proofs.cells.address_set.Tie as tie
