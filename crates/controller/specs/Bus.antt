@@ -57,7 +57,8 @@ decided rec mem kind byte wait =
 
 -- What reset comes to: display cells 20h and the record above, or 2 and the record it was given.
 unfoldable pub resetDecided : Record → List ℕ → Decision
-resetDecided rec mem = cond (whole mem) (record { answer = Done; byte = 0; rec = resetRecord; effect = Blank }) (refused NotWhole rec)
+resetDecided rec mem =
+    cond (whole mem) (record { answer = Done; byte = 0; rec = resetRecord; effect = Blank }) (refused NotWhole rec)
 
 -- What `transfer` and `reset` promise of a decision: what is returned, its number in the table, and every byte of the memory.
 pub record Performs (d : Decision) (before : List ℕ) (returned : Outcome) (after : List ℕ) : Type 0 where
@@ -65,8 +66,8 @@ pub record Performs (d : Decision) (before : List ℕ) (returned : Outcome) (aft
   pub number : numberOf (returned .answer) ≡ numberOf (d .answer)
   pub memory : after ≡ performed (d .effect) before
 
--- What `transfer_in` promises of a decision: what is told, its number in the table, the record left in the loan, and every byte of the
--- memory.
+-- What `transfer_in` promises of a decision: what is told, its number in the table, the record left in the loan, and every byte
+-- of the memory.
 pub record PerformsIn (d : Decision) (before : List ℕ) (returned : Told) (lent : Record) (after : List ℕ) : Type 0 where
   pub told : returned ≡ record { answer = d .answer; byte = d .byte }
   pub number : numberOf (returned .answer) ≡ numberOf (d .answer)

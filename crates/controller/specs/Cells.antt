@@ -72,8 +72,8 @@ cellOfAcg acg = acg .0 % 64
 abbrev pub acgOfCell : ℕ → Acg
 acgOfCell cell = record { 0 = cell }
 
--- The instruction that sets the counter to this cell: 80h and the cell's ADD, or 40h and its ACG. A number past the last cell of its
--- memory is counted on from the first.
+-- The instruction that sets the counter to this cell: 80h and the cell's ADD, or 40h and its ACG. A number past the last cell of
+-- its memory is counted on from the first.
 unfoldable pub addressSet : Bool → Counter → ℕ
 addressSet n (Display cell) = 0x80 + addOfCell n (cell % 80) .0
 addressSet n (Pattern cell) = 0x40 + acgOfCell (cell % 64) .0

@@ -52,8 +52,8 @@ NotWishes =
 -- A refused call plans nothing and leaves the buffer as found.
 abbrev pub PlanRefusals : Type 0
 PlanRefusals =
-    (wish : Wish) (marks values out : List ℕ) (returned : Planned) (after : List ℕ) → Plans (replyTo wish marks values out) out returned after
-    → (numberOf (returned .answer) ≡ 0 → ⊥) → (returned .count ≡ 0) × (after ≡ out)
+    (wish : Wish) (marks values out : List ℕ) (returned : Planned) (after : List ℕ)
+    → Plans (replyTo wish marks values out) out returned after → (numberOf (returned .answer) ≡ 0 → ⊥) → (returned .count ≡ 0) × (after ≡ out)
 
 -- No second answer fits.
 abbrev pub OnePlan : Type 0
@@ -100,8 +100,9 @@ abbrev pub P12 : Type 0
 P12 =
     (values : List ℕ)
     → planOf plainWish (all 0) values
-    ≡ single 0x30 15000 ∷ single 0x30 4100 ∷ single 0x30 100 ∷ single 0x20 100 ∷ single 0x20 100 ∷ single 0x80 1 ∷ single 0x00 40 ∷ single 0x80 1 ∷ single 0x00 40
-    ∷ single 0x60 1 ∷ single 0x00 40 ∷ single 0x20 1 ∷ single 0x00 1640 ∷ single 0x60 1 ∷ single 0x80 40 ∷ single 0x00 1 ∷ single 0x00 40 ∷ single 0xC0 1 ∷ []
+    ≡ single 0x30 15000 ∷ single 0x30 4100 ∷ single 0x30 100 ∷ single 0x20 100 ∷ single 0x20 100 ∷ single 0x80 1
+    ∷ single 0x00 40 ∷ single 0x80 1 ∷ single 0x00 40 ∷ single 0x60 1 ∷ single 0x00 40 ∷ single 0x20 1
+    ∷ single 0x00 1640 ∷ single 0x60 1 ∷ single 0x80 40 ∷ single 0x00 1 ∷ single 0x00 40 ∷ single 0xC0 1 ∷ []
 
 -- The exception of demand 3 is needed: a data write half sent before, and the plan that names no cell alters its cell.
 abbrev pub ExceptionNeeded : Type 0

@@ -4,7 +4,8 @@ ghost use Prim.Native.Nat.{_+_, _*_, _<_, _≤_};
 ghost use lib.ListN.{length, replicate};
 ghost use lib.Seq.{sets};
 ghost use Rattle.planner.specs.Pen.{Wrote};
-ghost use Rattle.planner.specs.Plan.{addressByte, cell, cellsBelow, counterAt, encoded, ending, instruction, opening, setUp, single, worth};
+ghost use Rattle.planner.specs.Plan.{addressByte, cell, cellsBelow, counterAt, encoded, ending, instruction, opening};
+ghost use Rattle.planner.specs.Plan.{setUp, single, worth};
 use crate::pen::Pen;
 use crate::pen::put;
 use crate::pen::send;
@@ -102,8 +103,10 @@ fn address_byte(n: bool, place: u8) -> u8
 
 // A marked cell, with an address set first unless the cell before it in the same memory is marked.
 fn write_cell(out: &mut [u8], pen: Pen, n: bool, marks: &[u8], values: &[u8], place: u8) -> Pen
-    requires { ⌜ (pen .at + 4 ≤ 468) × (2808 ≤ length (now out)) × (place < 144) × (length (now marks) ≡ 144) × (length (now values) ≡ 144) ⌝ }
-    ensures { λ r. ⌜ Wrote (cell n (now (marks .entry)) (now (values .entry)) place) pen r (now (out .entry)) (now (out .exit)) ⌝ }
+    requires { ⌜ (pen .at + 4 ≤ 468) × (2808 ≤ length (now out)) × (place < 144) × (length (now marks) ≡ 144)
+        × (length (now values) ≡ 144) ⌝ }
+    ensures { λ r.
+        ⌜ Wrote (cell n (now (marks .entry)) (now (values .entry)) place) pen r (now (out .entry)) (now (out .exit)) ⌝ }
 {
     let at = place as usize;
     if !is_marked(marks, at) {
@@ -120,7 +123,8 @@ fn write_cell(out: &mut [u8], pen: Pen, n: bool, marks: &[u8], values: &[u8], pl
 // The marked cells, rising.
 pub fn write_cells(out: &mut [u8], pen: Pen, n: bool, marks: &[u8], values: &[u8]) -> Pen
     requires { ⌜ (pen .at ≤ 170) × (2808 ≤ length (now out)) × (length (now marks) ≡ 144) × (length (now values) ≡ 144) ⌝ }
-    ensures { λ r. ⌜ Wrote (cellsBelow n (now (marks .entry)) (now (values .entry)) 144) pen r (now (out .entry)) (now (out .exit)) ⌝ }
+    ensures { λ r.
+        ⌜ Wrote (cellsBelow n (now (marks .entry)) (now (values .entry)) 144) pen r (now (out .entry)) (now (out .exit)) ⌝ }
 {
     let mut next = pen;
     let mut place = 0;
