@@ -1,3 +1,5 @@
+-- `planner::commands::open` meets its contract: four records, one behind the other.
+-- Assumes nothing.
 use Rattle.planner.specs.Plan.{encoded}
 use mathlib.Core.Path.{refl}
 use borrow.Author.Needs.{needs}
