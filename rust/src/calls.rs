@@ -1,6 +1,6 @@
 //! The six calls of `include/yaropesk.h` over bytes, and the model behind them.
 //!
-//! Written from the header, document 01 and `model.rs` alone.
+//! Written from the header, document 01 and `model` alone.
 
 use crate::font::SHAPES;
 use crate::model::{self, Counter, Half, Line, Reader, Record, Step, Wish, FONT};

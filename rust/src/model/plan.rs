@@ -1,0 +1,151 @@
+//! Document 01, "The plan".
+
+use super::record::{display_address, place};
+use super::{Counter, DATA_WRITE, DISPLAY_CELLS, INSTRUCTION_WRITE, MEMORY, PATTERN_CELLS};
+use super::{DONE, NOT_A_WISH, TOO_SHORT, WRONG_LENGTH};
+use super::{LONG_TIME, SHORT_TIME};
+
+/// "the buffer must have 2,808 bytes".
+pub const PLAN_BYTES: usize = 2_808;
+
+/// "A wish: N, F, D, C, B, I/D, S; shift (below L); cursor display cell 0 to 79";
+/// the marks and values come beside it.
+#[derive(Clone, Copy, Debug, PartialEq, Eq)]
+pub struct Wish {
+    pub n: bool,
+    pub f: bool,
+    pub d: bool,
+    pub c: bool,
+    pub b: bool,
+    pub id: bool,
+    pub s: bool,
+    pub shift: u8,
+    pub cursor: u8,
+}
+
+/// "N=F=1, a shift or cursor out of range, or a mark above 1 is not a wish, and
+/// nothing else is not."
+fn is_wish(wish: &Wish, marks: &[u8]) -> bool {
+    let line_length = if wish.n { 40 } else { 80 };
+    !(wish.n && wish.f)
+        && wish.shift < line_length
+        && wish.cursor < DISPLAY_CELLS
+        && marks.iter().all(|&mark| mark <= 1)
+}
+
+/// The records of a plan as they are gathered.
+struct Records {
+    bytes: Vec<u8>,
+    /// The time of the previous instruction, which the next first half waits for.
+    pending: u32,
+}
+
+impl Records {
+    /// "Records are six bytes: kind, byte, wait little-endian."
+    fn single(&mut self, kind: u8, byte: u8, wait: u32) {
+        self.bytes.push(kind);
+        self.bytes.push(byte);
+        self.bytes.extend_from_slice(&wait.to_le_bytes());
+    }
+
+    /// "First halves wait for the previous instruction's time (100 after item 1),
+    /// second halves 1."
+    fn halves(&mut self, kind: u8, byte: u8, time: u32) {
+        self.single(kind, byte & 0xF0, self.pending);
+        self.single(kind, byte << 4, 1);
+        self.pending = time;
+    }
+
+    fn instruction(&mut self, byte: u8) {
+        // Of the plan's instructions only Home takes the longer time.
+        let time = if byte == 0x02 { LONG_TIME } else { SHORT_TIME };
+        self.halves(INSTRUCTION_WRITE, byte, time);
+    }
+
+    fn data(&mut self, byte: u8) {
+        self.halves(DATA_WRITE, byte, SHORT_TIME);
+    }
+}
+
+fn bit(value: bool, number: u8) -> u8 {
+    if value {
+        1 << number
+    } else {
+        0
+    }
+}
+
+/// The transfers for a wish: answer and count of records. "Plan: 2, 13, 11."
+pub fn plan(wish: &Wish, marks: &[u8], values: &[u8], out: &mut [u8]) -> (u8, usize) {
+    if marks.len() != MEMORY || values.len() != MEMORY {
+        return (WRONG_LENGTH, 0);
+    }
+    if !is_wish(wish, marks) {
+        return (NOT_A_WISH, 0);
+    }
+    // Reading 11: always 2,808, however little is written.
+    if out.len() < PLAN_BYTES {
+        return (TOO_SHORT, 0);
+    }
+    let mut records = Records {
+        bytes: Vec::new(),
+        pending: 100,
+    };
+    plan_opening(&mut records, wish);
+    plan_cells(&mut records, wish, marks, values);
+    plan_ending(&mut records, wish);
+
+    // "At most 468 records; ... those past the last record stay. The count of
+    // records is returned."
+    out[..records.bytes.len()].copy_from_slice(&records.bytes);
+    (DONE, records.bytes.len() / 6)
+}
+
+fn plan_opening(records: &mut Records, wish: &Wish) {
+    // "1. Instruction bytes 30h, 30h, 30h, 20h, single transfers, waits 15,000,
+    // 4,100, 100, 100."
+    records.single(INSTRUCTION_WRITE, 0x30, 15_000);
+    records.single(INSTRUCTION_WRITE, 0x30, 4_100);
+    records.single(INSTRUCTION_WRITE, 0x30, 100);
+    records.single(INSTRUCTION_WRITE, 0x20, 100);
+
+    // "2. In two halves each: Function Set (DL=0, wished N, F), 08h, 06h, 02h, then
+    // 18h as often as the shift;"
+    records.instruction(0x20 | bit(wish.n, 3) | bit(wish.f, 2));
+    records.instruction(0x08);
+    records.instruction(0x06);
+    records.instruction(0x02);
+    for _ in 0..wish.shift {
+        records.instruction(0x18);
+    }
+}
+
+/// "marked display cells rising, then marked pattern cells rising, an address set
+/// first unless the cell before it in the same memory is marked;"
+fn plan_cells(records: &mut Records, wish: &Wish, marks: &[u8], values: &[u8]) {
+    for cell in 0..DISPLAY_CELLS {
+        let at = place(Counter::Display(cell));
+        if marks[at] == 1 {
+            if cell == 0 || marks[at - 1] == 0 {
+                records.instruction(0x80 | display_address(wish.n, cell));
+            }
+            records.data(values[at]);
+        }
+    }
+    for cell in 0..PATTERN_CELLS {
+        let at = place(Counter::Pattern(cell));
+        if marks[at] == 1 {
+            if cell == 0 || marks[at - 1] == 0 {
+                records.instruction(0x40 | cell);
+            }
+            records.data(values[at]);
+        }
+    }
+}
+
+/// "then Entry Mode, the cursor's address, Display Control as wished."
+fn plan_ending(records: &mut Records, wish: &Wish) {
+    records.instruction(0x04 | bit(wish.id, 1) | bit(wish.s, 0));
+    records.instruction(0x80 | display_address(wish.n, wish.cursor));
+    records.instruction(0x08 | bit(wish.d, 2) | bit(wish.c, 1) | bit(wish.b, 0));
+}
