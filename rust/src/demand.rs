@@ -10,9 +10,8 @@ use std::fmt::{self, Display, Formatter};
 
 use crate::calls::{answer_of, bytes_of, transfers_of, value_of, wish_of, TRANSFER_BYTES};
 use crate::case::{shown, Case, Function, Outcome};
-use crate::chance::Chance;
 use crate::model::{self, Counter, Half, Record, Wish, MEMORY, PLAN_BYTES, SHORT_TIME};
-use crate::random_calls::{sound_marks, sound_record, sound_wish, whole_memory};
+use crate::random::{sound_marks, sound_record, sound_wish, whole_memory, Chance};
 
 /// A start, a wish, and the places where the board stops.
 pub struct Trial {

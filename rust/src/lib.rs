@@ -3,7 +3,6 @@
 
 pub mod calls;
 pub mod case;
-pub mod chance;
 pub mod demand;
 pub mod drawing;
 pub mod font;
@@ -11,8 +10,6 @@ pub mod library;
 pub mod model;
 pub mod options;
 pub mod programs;
-pub mod random_calls;
-pub mod random_lines;
-pub mod random_texts;
+pub mod random;
 pub mod wrong;
 pub mod wrong_drawings;

@@ -2,10 +2,10 @@
 //! found out.
 
 use yaropesk_model::calls::{Calls, Model, Planner, MODEL};
-use yaropesk_model::chance::Chance;
 use yaropesk_model::demand::Trial;
 use yaropesk_model::library::Library;
 use yaropesk_model::model::{self, Wish};
+use yaropesk_model::random::Chance;
 use yaropesk_model::wrong;
 
 /// What went wrong in the first of fifty trials in which something did.

@@ -17,13 +17,12 @@ use std::process::{exit, Command};
 use std::time::{Duration, Instant};
 
 use yaropesk_model::calls::{bytes_of, Calls, MODEL, RECORD_BYTES, TRANSFER_BYTES};
-use yaropesk_model::chance::Chance;
 use yaropesk_model::library::Library;
 use yaropesk_model::model::{
     self, Half, Record, DATA_READ, DATA_WRITE, INSTRUCTION_WRITE, LINE_BYTES, MEMORY, PLAN_BYTES,
     SESSION_BYTES, STATUS_READ,
 };
-use yaropesk_model::random_calls::{sound_record, whole_memory};
+use yaropesk_model::random::{sound_record, whole_memory, Chance};
 
 const ROUNDS: usize = 60;
 const SEED: u64 = 44_780;

@@ -13,11 +13,10 @@
 
 use yaropesk_model::calls::{answer_of, Model, MODEL};
 use yaropesk_model::case::{Case, Function, Outcome, FUNCTIONS};
-use yaropesk_model::chance::Chance;
 use yaropesk_model::demand::Trial;
 use yaropesk_model::library::Library;
 use yaropesk_model::options::Options;
-use yaropesk_model::random_calls;
+use yaropesk_model::random::{self, Chance};
 use yaropesk_model::wrong;
 
 const DEFAULT_SEED: u64 = 44_780;
@@ -70,7 +69,7 @@ impl Comparison {
         for number in 0..=u16::MAX {
             let [kind, byte] = number.to_le_bytes();
             let mut chance = self.chance(1, number.into());
-            for case in random_calls::kind_and_byte(&mut chance, kind, byte) {
+            for case in random::calls::kind_and_byte(&mut chance, kind, byte) {
                 self.call(&case)?;
             }
         }
@@ -80,7 +79,7 @@ impl Comparison {
     fn random_calls(&mut self, calls: u64) -> Stop {
         for number in 0..calls {
             let mut chance = self.chance(2, number);
-            self.call(&random_calls::any_call(&mut chance))?;
+            self.call(&random::calls::any_call(&mut chance))?;
         }
         Ok(())
     }
@@ -89,10 +88,10 @@ impl Comparison {
     fn sequences(&mut self) -> Stop {
         for number in 0..SEQUENCES {
             let mut chance = self.chance(3, number);
-            let mut case = random_calls::reset_of_anything(&mut chance);
+            let mut case = random::calls::reset_of_anything(&mut chance);
             for _ in 0..=SEQUENCE_TRANSFERS {
                 let left = self.call(&case)?;
-                case = random_calls::next_transfer(&mut chance, left.buffers);
+                case = random::calls::next_transfer(&mut chance, left.buffers);
             }
         }
         Ok(())

@@ -12,12 +12,11 @@
 
 use std::fmt::{self, Display, Formatter};
 
-use yaropesk_model::chance::Chance;
 use yaropesk_model::drawing::{Drawing, Form, Size, Written, DRAWING};
 use yaropesk_model::model::{self, Half, SESSION_BYTES};
 use yaropesk_model::options::Options;
 use yaropesk_model::programs::{run, show, shrink, Ran};
-use yaropesk_model::random_texts::random_panel_text;
+use yaropesk_model::random::{random_panel_text, Chance};
 use yaropesk_model::wrong_drawings;
 
 const DEFAULT_SEED: u64 = 44_780;

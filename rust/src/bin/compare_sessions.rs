@@ -14,7 +14,7 @@ use yaropesk_model::calls::{Model, MODEL};
 use yaropesk_model::model;
 use yaropesk_model::options::Options;
 use yaropesk_model::programs::{run, show, shrink};
-use yaropesk_model::random_texts::random_text;
+use yaropesk_model::random::random_text;
 use yaropesk_model::wrong;
 
 const DEFAULT_SEED: u64 = 44_780;

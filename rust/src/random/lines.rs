@@ -1,6 +1,6 @@
 //! Random session lines, good and damaged.
 
-use crate::chance::Chance;
+use super::Chance;
 use crate::model::{DATA_READ, DATA_WRITE, INSTRUCTION_WRITE, STATUS_READ};
 
 pub const KINDS: [u8; 4] = [INSTRUCTION_WRITE, DATA_WRITE, STATUS_READ, DATA_READ];
