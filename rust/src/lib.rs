@@ -12,4 +12,3 @@ pub mod options;
 pub mod programs;
 pub mod random;
 pub mod wrong;
-pub mod wrong_drawings;

@@ -17,7 +17,7 @@ use yaropesk_model::model::{self, Half, SESSION_BYTES};
 use yaropesk_model::options::Options;
 use yaropesk_model::programs::{run, show, shrink, Ran};
 use yaropesk_model::random::{random_panel_text, Chance};
-use yaropesk_model::wrong_drawings;
+use yaropesk_model::wrong::drawings;
 
 const DEFAULT_SEED: u64 = 44_780;
 const DEFAULT_RUNS: u64 = 2_000;
@@ -192,7 +192,7 @@ fn compare(pair: Pair, seed: u64, runs: u64) -> bool {
 
 fn main() {
     let usage = "compare_glass PROGRAM [SEED] [RUNS]";
-    let options = Options::read(usage, DRAWING, wrong_drawings::all());
+    let options = Options::read(usage, DRAWING, drawings::all());
     let (Some(program), 1..=3) = (options.plain.first(), options.plain.len()) else {
         options.refuse();
     };

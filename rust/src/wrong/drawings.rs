@@ -1,8 +1,8 @@
-//! Deliberately wrong drawings, as `wrong` has wrong models.
+//! Deliberately wrong drawings of the program `glass`.
 
 use crate::drawing::{self, Dot, Drawing, Grid, Gridder, Inker, Size, Teller, Watcher, DRAWING};
 use crate::model::{Half, Record};
-use crate::wrong::{self, each};
+use crate::wrong::{each, of_calls};
 
 /// Each character's dots run from right to left.
 fn mirrored_dots(picture: &[u8], size: Size) -> Grid {
@@ -107,7 +107,7 @@ const WRONG_MODELS: [&str; 2] = ["read-shifts", "second-line-drawn"];
 
 /// All of them, with their names.
 pub fn all() -> Vec<(&'static str, Drawing)> {
-    let mut models = wrong::of_calls();
+    let mut models = of_calls();
     models.retain(|(name, _)| WRONG_MODELS.contains(name));
     [
         each(&WRONG_GRIDS, |grid| Drawing { grid, ..DRAWING }),
