@@ -2,7 +2,9 @@
 
 use std::fmt::{self, Display, Formatter};
 
-use crate::calls::{answer_of, value_of, Calls, RECORD_BYTES, WISH_BYTES};
+use crate::bytes::{BUSY_AT, RECORD_BYTES, WISH_BYTES, WISH_ZEROS};
+use crate::calls::{answer_of, value_of, Calls};
+use crate::model::little_endian;
 
 /// The six functions, in the order of the header.
 #[derive(Clone, Copy, Debug, PartialEq, Eq)]
@@ -193,13 +195,20 @@ fn fields(names: &[&str], bytes: &[u8]) -> String {
 
 fn record_shown(bytes: &[u8]) -> String {
     let named = fields(&RECORD_FIELDS, bytes);
-    let busy = u32::from_le_bytes([bytes[16], bytes[17], bytes[18], bytes[19]]);
-    let zeros = (hex(&bytes[15..16]), hex(&bytes[20..]));
+    let busy = little_endian(&bytes[BUSY_AT]);
+    let zeros = (
+        hex(&bytes[RECORD_FIELDS.len()..BUSY_AT.start]),
+        hex(&bytes[BUSY_AT.end..]),
+    );
     format!("{named} busy={busy} zeros {} and {}", zeros.0, zeros.1)
 }
 
 fn wish_shown(bytes: &[u8]) -> String {
-    format!("{} zeros {}", fields(&WISH_FIELDS, bytes), hex(&bytes[9..]))
+    format!(
+        "{} zeros {}",
+        fields(&WISH_FIELDS, bytes),
+        hex(&bytes[WISH_ZEROS])
+    )
 }
 
 /// Bytes in hex; equal ones in a row are counted.

@@ -8,9 +8,11 @@
 
 use std::fmt::{self, Display, Formatter};
 
-use crate::calls::{answer_of, bytes_of, transfers_of, value_of, wish_of, TRANSFER_BYTES};
+use crate::bytes::{bytes_of, wish_of};
+use crate::calls::{answer_of, value_of};
 use crate::case::{shown, Case, Function, Outcome};
-use crate::model::{self, Counter, Half, Record, Wish, MEMORY, PLAN_BYTES, SHORT_TIME};
+use crate::model::{self, Counter, Half, Record, Transfer, Wish};
+use crate::model::{MEMORY, PLAN_BYTES, SHORT_TIME, TRANSFER_BYTES};
 use crate::random::{sound_marks, sound_record, sound_wish, whole_memory, Chance};
 
 /// A start, a wish, and the places where the board stops.
@@ -53,7 +55,7 @@ impl Trial {
     ) -> Result<(), String> {
         let planned = call(&self.planning())?;
         let length = value_of(planned.returned) * TRANSFER_BYTES;
-        let plan = transfers_of(&planned.buffers[3][..length]);
+        let plan = model::transfers_of(&planned.buffers[3][..length]);
         let mut panel = Panel {
             record: bytes_of(&self.start).to_vec(),
             memory: self.memory.clone(),
@@ -83,7 +85,7 @@ impl Trial {
     /// One run of the plan, or the beginning of one.
     fn send(
         &self,
-        transfers: &[(u8, u8, u32)],
+        transfers: &[Transfer],
         panel: &mut Panel,
         call: &mut impl FnMut(&Case) -> Result<Outcome, String>,
     ) -> Result<(), String> {

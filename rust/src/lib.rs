@@ -1,6 +1,7 @@
 //! The outside checks of the bench Yaropesk: an independent model, written from its
 //! documents alone, the proved library behind safe functions, and what compares them.
 
+pub mod bytes;
 pub mod calls;
 pub mod case;
 pub mod demand;

@@ -16,12 +16,12 @@ use std::path::{Path, PathBuf};
 use std::process::{exit, Command};
 use std::time::{Duration, Instant};
 
-use yaropesk_model::calls::{bytes_of, Calls, MODEL, RECORD_BYTES, TRANSFER_BYTES};
+use yaropesk_model::bytes::{bytes_of, RECORD_BYTES};
+use yaropesk_model::calls::{Calls, MODEL};
 use yaropesk_model::library::Library;
-use yaropesk_model::model::{
-    self, Half, Record, DATA_READ, DATA_WRITE, INSTRUCTION_WRITE, LINE_BYTES, MEMORY, PLAN_BYTES,
-    SESSION_BYTES, STATUS_READ,
-};
+use yaropesk_model::model::{self, Half, Record, Transfer};
+use yaropesk_model::model::{DATA_READ, DATA_WRITE, INSTRUCTION_WRITE, STATUS_READ};
+use yaropesk_model::model::{LINE_BYTES, MEMORY, PLAN_BYTES, SESSION_BYTES, TRANSFER_BYTES};
 use yaropesk_model::random::{sound_record, whole_memory, Chance};
 
 const ROUNDS: usize = 60;
@@ -57,9 +57,6 @@ fn measure(name: &str, work: usize, ours: impl Fn() -> u64, theirs: impl Fn() ->
 // ---------------------------------------------------------------------------
 // Transfers
 // ---------------------------------------------------------------------------
-
-/// Kind, byte and wait.
-type Transfer = (u8, u8, u32);
 
 const TRANSFERS: usize = 20_000;
 const PASSES: usize = 10;

@@ -1,12 +1,32 @@
 //! Document 01, "The plan".
 
 use super::record::{display_address, place};
-use super::{Counter, DATA_WRITE, DISPLAY_CELLS, INSTRUCTION_WRITE, MEMORY, PATTERN_CELLS};
+use super::{Counter, Transfer, DISPLAY_CELLS, MEMORY, PATTERN_CELLS};
+use super::{DATA_WRITE, INSTRUCTION_WRITE, LONG_TIME, SHORT_TIME};
 use super::{DONE, NOT_A_WISH, TOO_SHORT, WRONG_LENGTH};
-use super::{LONG_TIME, SHORT_TIME};
 
 /// "the buffer must have 2,808 bytes".
 pub const PLAN_BYTES: usize = 2_808;
+/// "Records are six bytes: kind, byte, wait little-endian."
+pub const TRANSFER_BYTES: usize = 6;
+
+pub fn transfer_bytes((kind, byte, wait): Transfer) -> [u8; TRANSFER_BYTES] {
+    let wait = wait.to_le_bytes();
+    [kind, byte, wait[0], wait[1], wait[2], wait[3]]
+}
+
+/// The transfers in so many bytes of a plan.
+pub fn transfers_of(bytes: &[u8]) -> Vec<Transfer> {
+    bytes
+        .chunks_exact(TRANSFER_BYTES)
+        .map(|six| (six[0], six[1], little_endian(&six[2..])))
+        .collect()
+}
+
+/// The number in four bytes.
+pub fn little_endian(bytes: &[u8]) -> u32 {
+    u32::from_le_bytes([bytes[0], bytes[1], bytes[2], bytes[3]])
+}
 
 /// "A wish: N, F, D, C, B, I/D, S; shift (below L); cursor display cell 0 to 79";
 /// the marks and values come beside it.
@@ -41,11 +61,8 @@ struct Records {
 }
 
 impl Records {
-    /// "Records are six bytes: kind, byte, wait little-endian."
     fn single(&mut self, kind: u8, byte: u8, wait: u32) {
-        self.bytes.push(kind);
-        self.bytes.push(byte);
-        self.bytes.extend_from_slice(&wait.to_le_bytes());
+        self.bytes.extend(transfer_bytes((kind, byte, wait)));
     }
 
     /// "First halves wait for the previous instruction's time (100 after item 1),
@@ -98,7 +115,7 @@ pub fn plan(wish: &Wish, marks: &[u8], values: &[u8], out: &mut [u8]) -> (u8, us
     // "At most 468 records; ... those past the last record stay. The count of
     // records is returned."
     out[..records.bytes.len()].copy_from_slice(&records.bytes);
-    (DONE, records.bytes.len() / 6)
+    (DONE, records.bytes.len() / TRANSFER_BYTES)
 }
 
 fn plan_opening(records: &mut Records, wish: &Wish) {

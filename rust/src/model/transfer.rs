@@ -11,6 +11,10 @@ pub const DATA_WRITE: u8 = 1;
 pub const STATUS_READ: u8 = 2;
 pub const DATA_READ: u8 = 3;
 
+/// Kind, byte and wait: "a byte (00h for reads) and the wait since the previous
+/// transfer, 0 to 4,294,967,295".
+pub type Transfer = (u8, u8, u32);
+
 /// "Clear and Home take 1,640, all other instructions, data writes and data reads
 /// 40".
 pub const LONG_TIME: u32 = 1_640;

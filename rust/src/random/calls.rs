@@ -4,11 +4,10 @@ use super::lines;
 use super::records::{memory, record, sound_record, whole_memory};
 use super::wishes::{marks, wish};
 use super::Chance;
-use crate::calls::{bytes_of, record_of, RECORD_BYTES, TRANSFER_BYTES};
+use crate::bytes::{bytes_of, record_of, RECORD_BYTES};
 use crate::case::{Case, Function};
-use crate::model::{
-    Record, DATA_READ, DATA_WRITE, INSTRUCTION_WRITE, LINE_BYTES, MEMORY, PLAN_BYTES, STATUS_READ,
-};
+use crate::model::{Record, DATA_READ, DATA_WRITE, INSTRUCTION_WRITE, STATUS_READ};
+use crate::model::{LINE_BYTES, MEMORY, PLAN_BYTES, TRANSFER_BYTES};
 
 /// A call of any of the six functions.
 pub fn any_call(chance: &mut Chance) -> Case {

@@ -1,7 +1,7 @@
 //! Random records and memories, sound and damaged.
 
 use super::Chance;
-use crate::calls::{bytes_of, RECORD_BYTES};
+use crate::bytes::{bytes_of, BUSY_AT, RECORD_BYTES, RECORD_ZEROS};
 use crate::model::{Counter, Half, Record, DISPLAY_CELLS, LONGEST_BUSY, MEMORY, PATTERN_CELLS};
 
 /// A number below the bound, its edges more often than the rest.
@@ -78,9 +78,12 @@ fn damaged_record(chance: &mut Chance) -> Vec<u8> {
         4 => bytes[10] = chance.pick(&[63, 64, 79, 80, 81, 0xFF, any]),
         5 => bytes[13] = chance.pick(&[1, 2, 3, 4, 5, 0xFF, any]),
         6 => bytes[14] = chance.pick(&[1, 0x0F, 0x10, 0xFF, any]),
-        7 => bytes[chance.pick(&[15, 20, 21, 22, 23])] = chance.pick(&[1, 0x80, any]),
-        8 => bytes[chance.pick(&[16, 17, 18, 19])] = chance.pick(&[1, any]),
-        9 => bytes[16..20].copy_from_slice(&chance.pick(&[10_001, 65_536, u32::MAX]).to_le_bytes()),
+        7 => bytes[chance.pick(&RECORD_ZEROS)] = chance.pick(&[1, 0x80, any]),
+        8 => bytes[BUSY_AT.start + chance.index(BUSY_AT.len())] = chance.pick(&[1, any]),
+        9 => {
+            let busy: u32 = chance.pick(&[10_001, 65_536, u32::MAX]);
+            bytes[BUSY_AT].copy_from_slice(&busy.to_le_bytes());
+        }
         10 => bytes = chance.bytes(RECORD_BYTES),
         _ => bytes.resize(chance.below(31) as usize, 0),
     }

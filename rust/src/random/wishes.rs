@@ -2,6 +2,7 @@
 
 use super::records::edge_or_any;
 use super::Chance;
+use crate::bytes::{WISH_BYTES, WISH_ZEROS};
 use crate::model::{DISPLAY_CELLS, MEMORY};
 
 /// The bytes of a wish that the planner accepts.
@@ -14,7 +15,7 @@ pub fn sound_wish(chance: &mut Chance) -> Vec<u8> {
     let shift = edge_or_any(chance, line_length);
     wish.push(chance.pick(&[0, 0, shift]));
     wish.push(edge_or_any(chance, DISPLAY_CELLS));
-    wish.resize(16, 0);
+    wish.resize(WISH_BYTES, 0);
     wish
 }
 
@@ -27,8 +28,8 @@ fn damaged_wish(chance: &mut Chance) -> Vec<u8> {
         1 => (wish[0], wish[1]) = (1, 1),
         2 => wish[7] = chance.pick(&[39, 40, 79, 80, 0xFF, any]),
         3 => wish[8] = chance.pick(&[79, 80, 0xFF, any]),
-        4 => wish[9 + chance.index(7)] = chance.pick(&[1, any]),
-        5 => wish = chance.bytes(16),
+        4 => wish[WISH_ZEROS.start + chance.index(WISH_ZEROS.len())] = chance.pick(&[1, any]),
+        5 => wish = chance.bytes(WISH_BYTES),
         _ => wish.resize(chance.below(31) as usize, 0),
     }
     wish

@@ -1,13 +1,13 @@
 //! Wrong readings of document 01's chapter "The plan".
 
-use crate::calls::{self, Planner};
-use crate::model::{self, Wish};
+use crate::calls::Planner;
+use crate::model::{self, Wish, TRANSFER_BYTES};
 
 /// The second wait of a plan is one less.
 fn second_wait_less(wish: &Wish, marks: &[u8], values: &[u8], out: &mut [u8]) -> (u8, usize) {
     let (answer, count) = model::plan(wish, marks, values, out);
     if answer == model::DONE {
-        out[8] -= 1;
+        out[TRANSFER_BYTES + 2] -= 1;
     }
     (answer, count)
 }
@@ -17,7 +17,7 @@ pub fn plan_clears(wish: &Wish, marks: &[u8], values: &[u8], out: &mut [u8]) -> 
     let (answer, count) = model::plan(wish, marks, values, out);
     if answer == model::DONE {
         // The second half of Home is the twelfth record.
-        out[6 * 11 + 1] = 0x10;
+        out[TRANSFER_BYTES * 11 + 1] = 0x10;
     }
     (answer, count)
 }
@@ -37,7 +37,7 @@ pub fn first_mark_alone(wish: &Wish, marks: &[u8], values: &[u8], out: &mut [u8]
 fn short_plan_taken(wish: &Wish, marks: &[u8], values: &[u8], out: &mut [u8]) -> (u8, usize) {
     let mut room = vec![0; model::PLAN_BYTES];
     let (answer, count) = model::plan(wish, marks, values, &mut room);
-    let length = count * calls::TRANSFER_BYTES;
+    let length = count * TRANSFER_BYTES;
     if answer != model::DONE || out.len() < length {
         return model::plan(wish, marks, values, out);
     }

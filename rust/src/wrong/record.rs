@@ -1,16 +1,17 @@
 //! Wrong readings of document 01's chapter "The controller's record and memory": a
 //! record's bytes, and reset.
 
-use crate::calls::{self, RecordReader, Resetter};
+use crate::bytes::{record_of, RECORD_BYTES};
+use crate::calls::{RecordReader, Resetter};
 use crate::model::{self, Record};
 
 /// Byte 23 of a record, which must be zero, is not looked at.
 fn last_byte_unseen(bytes: &[u8]) -> Option<Record> {
     let mut bytes = bytes.to_vec();
-    if bytes.len() == calls::RECORD_BYTES {
+    if bytes.len() == RECORD_BYTES {
         bytes[23] = 0;
     }
-    calls::record_of(&bytes)
+    record_of(&bytes)
 }
 
 /// Reset clears the pattern cells too.

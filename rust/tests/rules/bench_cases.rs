@@ -1,6 +1,5 @@
 //! Document 01, "Bench cases": P1 to P12.
 
-use yaropesk_model::calls::{transfers_of, TRANSFER_BYTES};
 use yaropesk_model::model::*;
 
 use crate::given::{font, plain_wish, shape, Bench};

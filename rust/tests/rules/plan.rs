@@ -1,6 +1,5 @@
 //! Document 01, "The plan": what is refused, and plans played back.
 
-use yaropesk_model::calls::{transfers_of, TRANSFER_BYTES};
 use yaropesk_model::demand::wished_record;
 use yaropesk_model::model::*;
 
