@@ -112,9 +112,8 @@ impl Trial {
 
     /// "The panel then stands as wished", and the cells that are not named are spared.
     fn stands(&self, panel: &Panel) -> Result<(), String> {
-        let excepted = match (self.start.half, self.start.counter) {
-            (Half::DataWrite(_), Counter::Display(cell)) => Some(usize::from(cell)),
-            (Half::DataWrite(_), Counter::Pattern(cell)) => Some(80 + usize::from(cell)),
+        let excepted = match self.start.half {
+            Half::DataWrite(_) => Some(model::place(self.start.counter)),
             _ => None,
         };
         for cell in 0..MEMORY {
@@ -150,8 +149,9 @@ pub fn wished_record(wish: &Wish, memory: &[u8]) -> Record {
         counter: Counter::Display(wish.cursor),
         register: memory[usize::from(wish.cursor)],
         fresh: true,
-        half: Half::None,
         busy: SHORT_TIME,
+        // No half, as after reset.
+        ..model::record_after_reset()
     }
 }
 

@@ -45,13 +45,24 @@ pub fn picture(
     DONE
 }
 
-/// The display cell at a position; "Line length L is 80 (N=0) or 40 (N=1);
-/// position p shows cell (p + shift) modulo L of its line. N=0 drives line 1 only".
+/// "Line length L is 80 (N=0) or 40 (N=1)".
+pub const fn line_length(n: bool) -> u8 {
+    if n {
+        40
+    } else {
+        80
+    }
+}
+
+/// The display cell at a position: "position p shows cell (p + shift) modulo L of its
+/// line. N=0 drives line 1 only".
 pub fn shown_cell(rec: &Record, line: u8, column: u8) -> Option<u8> {
+    const ONE_LINE: u8 = line_length(false);
+    const EACH_OF_TWO: u8 = line_length(true);
     match (rec.n, line) {
-        (false, 0) => Some((column + rec.shift) % 80),
+        (false, 0) => Some((column + rec.shift) % ONE_LINE),
         (false, _) => None,
-        (true, _) => Some(line * 40 + (column + rec.shift) % 40),
+        (true, _) => Some(line * EACH_OF_TWO + (column + rec.shift) % EACH_OF_TWO),
     }
 }
 

@@ -1,13 +1,18 @@
 //! Document 01, "Session lines": one line, written and read.
 
-use super::transfer::is_read;
-use super::{BAD_LINE, DATA_READ, DONE, TOO_SHORT, WRONG_KIND};
+use super::transfer::is_bad;
+use super::{BAD_LINE, DONE, TOO_SHORT, WRONG_KIND};
 
 /// "at most 16 bytes; the writer wants 16".
 pub const LINE_BYTES: usize = 16;
 
 /// "`I`, `D`, `S` or `R`", in the order of the kinds.
 const LETTERS: [u8; 4] = [b'I', b'D', b'S', b'R'];
+
+/// The letter of a kind, which is not above 3.
+pub fn letter(kind: u8) -> char {
+    LETTERS[usize::from(kind)].into()
+}
 
 fn hex_digit(four_bits: u8) -> u8 {
     b"0123456789ABCDEF"[(four_bits & 0x0F) as usize]
@@ -24,7 +29,7 @@ fn hex_value(digit: u8) -> Option<u8> {
 
 /// Writes one line: answer and length. "Writer: 3, 11."
 pub fn write_line(kind: u8, byte: u8, wait: u32, out: &mut [u8]) -> (u8, usize) {
-    if kind > DATA_READ || (is_read(kind) && byte != 0x00) {
+    if is_bad(kind, byte) {
         return (WRONG_KIND, 0);
     }
     // "the writer wants 16"
@@ -81,7 +86,7 @@ fn parse_line(text: &[u8]) -> Option<Line> {
     }
     let kind = LETTERS.iter().position(|&letter| letter == line[0])? as u8;
     let byte = hex_value(line[2])? << 4 | hex_value(line[3])?;
-    if is_read(kind) && byte != 0x00 {
+    if is_bad(kind, byte) {
         return None;
     }
     Some(Line {

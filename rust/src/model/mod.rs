@@ -16,13 +16,13 @@ mod session;
 mod transfer;
 
 pub use answers::*;
-pub use dots::{picture, shown_cell, FONT};
-pub use lines::{read_line, write_line, Line, LINE_BYTES};
+pub use dots::{line_length, picture, shown_cell, FONT};
+pub use lines::{letter, read_line, write_line, Line, LINE_BYTES};
 pub use plan::{little_endian, transfer_bytes, transfers_of};
 pub use plan::{plan, Wish, PLAN_BYTES, TRANSFER_BYTES};
-pub use record::{is_sound, record_after_reset, reset, Counter, Half, Record};
+pub use record::{is_sound, place, record_after_reset, reset, Counter, Half, Record};
 pub use record::{DISPLAY_CELLS, LONGEST_BUSY, MEMORY, PATTERN_CELLS};
 pub use session::{play, session, session_with, Played, Reader, Step};
 pub use session::{HEADER, SESSION_BYTES, TOO_LONG};
-pub use transfer::{transfer, Transfer, LONG_TIME, SHORT_TIME};
-pub use transfer::{DATA_READ, DATA_WRITE, INSTRUCTION_WRITE, STATUS_READ};
+pub use transfer::{is_read, transfer, Transfer, LONG_TIME, SHORT_TIME};
+pub use transfer::{DATA_READ, DATA_WRITE, INSTRUCTION_WRITE, KINDS, STATUS_READ};

@@ -1,8 +1,9 @@
 //! Document 01, "The plan".
 
-use super::record::{display_address, place};
-use super::{Counter, Transfer, DISPLAY_CELLS, MEMORY, PATTERN_CELLS};
-use super::{DATA_WRITE, INSTRUCTION_WRITE, LONG_TIME, SHORT_TIME};
+use super::record::{address, place};
+use super::transfer::time_of;
+use super::{line_length, Counter, Transfer, DISPLAY_CELLS, MEMORY, PATTERN_CELLS};
+use super::{DATA_WRITE, INSTRUCTION_WRITE, SHORT_TIME};
 use super::{DONE, NOT_A_WISH, TOO_SHORT, WRONG_LENGTH};
 
 /// "the buffer must have 2,808 bytes".
@@ -46,9 +47,8 @@ pub struct Wish {
 /// "N=F=1, a shift or cursor out of range, or a mark above 1 is not a wish, and
 /// nothing else is not."
 fn is_wish(wish: &Wish, marks: &[u8]) -> bool {
-    let line_length = if wish.n { 40 } else { 80 };
     !(wish.n && wish.f)
-        && wish.shift < line_length
+        && wish.shift < line_length(wish.n)
         && wish.cursor < DISPLAY_CELLS
         && marks.iter().all(|&mark| mark <= 1)
 }
@@ -74,9 +74,17 @@ impl Records {
     }
 
     fn instruction(&mut self, byte: u8) {
-        // Of the plan's instructions only Home takes the longer time.
-        let time = if byte == 0x02 { LONG_TIME } else { SHORT_TIME };
-        self.halves(INSTRUCTION_WRITE, byte, time);
+        self.halves(INSTRUCTION_WRITE, byte, time_of(byte));
+    }
+
+    /// The instruction that sets the counter: "40h-7Fh, 80h-FFh: pattern or display
+    /// address".
+    fn address_set(&mut self, n: bool, counter: Counter) {
+        let class = match counter {
+            Counter::Display(_) => 0x80,
+            Counter::Pattern(_) => 0x40,
+        };
+        self.instruction(class | address(n, counter));
     }
 
     fn data(&mut self, byte: u8) {
@@ -140,20 +148,13 @@ fn plan_opening(records: &mut Records, wish: &Wish) {
 /// "marked display cells rising, then marked pattern cells rising, an address set
 /// first unless the cell before it in the same memory is marked;"
 fn plan_cells(records: &mut Records, wish: &Wish, marks: &[u8], values: &[u8]) {
-    for cell in 0..DISPLAY_CELLS {
-        let at = place(Counter::Display(cell));
+    let display = (0..DISPLAY_CELLS).map(|cell| (cell, Counter::Display(cell)));
+    let pattern = (0..PATTERN_CELLS).map(|cell| (cell, Counter::Pattern(cell)));
+    for (cell, counter) in display.chain(pattern) {
+        let at = place(counter);
         if marks[at] == 1 {
             if cell == 0 || marks[at - 1] == 0 {
-                records.instruction(0x80 | display_address(wish.n, cell));
-            }
-            records.data(values[at]);
-        }
-    }
-    for cell in 0..PATTERN_CELLS {
-        let at = place(Counter::Pattern(cell));
-        if marks[at] == 1 {
-            if cell == 0 || marks[at - 1] == 0 {
-                records.instruction(0x40 | cell);
+                records.address_set(wish.n, counter);
             }
             records.data(values[at]);
         }
@@ -163,6 +164,6 @@ fn plan_cells(records: &mut Records, wish: &Wish, marks: &[u8], values: &[u8]) {
 /// "then Entry Mode, the cursor's address, Display Control as wished."
 fn plan_ending(records: &mut Records, wish: &Wish) {
     records.instruction(0x04 | bit(wish.id, 1) | bit(wish.s, 0));
-    records.instruction(0x80 | display_address(wish.n, wish.cursor));
+    records.address_set(wish.n, Counter::Display(wish.cursor));
     records.instruction(0x08 | bit(wish.d, 2) | bit(wish.c, 1) | bit(wish.b, 0));
 }

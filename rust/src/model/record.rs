@@ -111,16 +111,25 @@ pub(super) fn blank_display(mem: &mut [u8]) {
 }
 
 /// Where the counter's cell lies in the memory.
-pub(super) fn place(counter: Counter) -> usize {
+pub fn place(counter: Counter) -> usize {
     match counter {
         Counter::Display(cell) => cell as usize,
         Counter::Pattern(cell) => DISPLAY_CELLS as usize + cell as usize,
     }
 }
 
+/// The address of the counter's cell: "A display address (ADD) is never read as a
+/// pattern address (ACG), though both are small numbers."
+pub(super) fn address(n: bool, counter: Counter) -> u8 {
+    match counter {
+        Counter::Display(cell) => display_address(n, cell),
+        Counter::Pattern(cell) => cell,
+    }
+}
+
 /// "N=0: cell c has address c, 00h to 4Fh. N=1: cells 0 to 39 are 00h to 27h,
 /// cells 40 to 79 are 40h to 67h (cell + 24)."
-pub(super) fn display_address(n: bool, cell: u8) -> u8 {
+fn display_address(n: bool, cell: u8) -> u8 {
     if n && cell >= 40 {
         cell + 24
     } else {

@@ -1,6 +1,6 @@
 //! Document 01, "One transfer".
 
-use super::record::{blank_display, display_address, display_cell, place, step, step_counter};
+use super::record::{address, blank_display, display_cell, place, step, step_counter};
 use super::{is_sound, Counter, Half, Record, DISPLAY_CELLS, MEMORY};
 use super::{BUSY, CROSSED, DONE, FIRST_HALF, NO_CELL, STALE, UNSOUND, WRONG_KIND, WRONG_LENGTH};
 
@@ -10,6 +10,7 @@ pub const INSTRUCTION_WRITE: u8 = 0;
 pub const DATA_WRITE: u8 = 1;
 pub const STATUS_READ: u8 = 2;
 pub const DATA_READ: u8 = 3;
+pub const KINDS: [u8; 4] = [INSTRUCTION_WRITE, DATA_WRITE, STATUS_READ, DATA_READ];
 
 /// Kind, byte and wait: "a byte (00h for reads) and the wait since the previous
 /// transfer, 0 to 4,294,967,295".
@@ -20,8 +21,25 @@ pub type Transfer = (u8, u8, u32);
 pub const LONG_TIME: u32 = 1_640;
 pub const SHORT_TIME: u32 = 40;
 
-pub(super) fn is_read(kind: u8) -> bool {
+/// The time of an instruction, "by highest set bit": 01h is Clear, 02h and 03h are Home.
+pub(super) fn time_of(instruction: u8) -> u32 {
+    match instruction {
+        0x01..=0x03 => LONG_TIME,
+        _ => SHORT_TIME,
+    }
+}
+
+pub fn is_read(kind: u8) -> bool {
     kind == STATUS_READ || kind == DATA_READ
+}
+
+/// "kind above 3, or a read with a byte".
+pub(super) fn is_bad(kind: u8, byte: u8) -> bool {
+    match kind {
+        INSTRUCTION_WRITE | DATA_WRITE => false,
+        STATUS_READ | DATA_READ => byte != 0x00,
+        _ => true,
+    }
 }
 
 /// One transfer: answer, byte, new record. "Transfer: 1, 2, 3, 4, 9, 6, 7, 8."
@@ -32,8 +50,8 @@ pub fn transfer(rec: Record, mem: &mut [u8], kind: u8, byte: u8, wait: u32) -> (
     if mem.len() != MEMORY {
         return (WRONG_LENGTH, 0x00, rec);
     }
-    // "kind above 3, or a read with a byte". Reading 3: no wait is counted.
-    if kind > DATA_READ || (is_read(kind) && byte != 0x00) {
+    // Reading 3: no wait is counted.
+    if is_bad(kind, byte) {
         return (WRONG_KIND, 0x00, rec);
     }
 
@@ -145,11 +163,7 @@ fn perform_instruction(rec: &mut Record, mem: &mut [u8], byte: u8) -> u8 {
             (rec.d, rec.c, rec.b) = (byte & 0x04 != 0, byte & 0x02 != 0, byte & 0x01 != 0)
         }
         0x10..=0x1F => move_or_shift(rec, mem, byte),
-        // "20h-3Fh: DL, N, F. Width follows DL at once."
-        0x20..=0x3F => {
-            rec.width = if byte & 0x10 != 0 { 8 } else { 4 };
-            (rec.n, rec.f) = (byte & 0x08 != 0, byte & 0x04 != 0);
-        }
+        0x20..=0x3F => set_function(rec, byte),
         // "40h-7Fh, 80h-FFh: pattern or display address; loads the register,
         // fresh."
         0x40..=0x7F => set_counter(rec, mem, Counter::Pattern(byte & 0x3F)),
@@ -160,10 +174,8 @@ fn perform_instruction(rec: &mut Record, mem: &mut [u8], byte: u8) -> u8 {
             None => return NO_CELL,
         },
     }
-    // "Clear and Home take 1,640, all other instructions ... 40". "A completed
-    // transfer that takes time sets busy to it."
-    let long = (0x01..=0x03).contains(&byte);
-    rec.busy = if long { LONG_TIME } else { SHORT_TIME };
+    // "A completed transfer that takes time sets busy to it."
+    rec.busy = time_of(byte);
     DONE
 }
 
@@ -172,6 +184,12 @@ fn home(rec: &mut Record) {
     rec.counter = Counter::Display(0);
     rec.shift = 0;
     rec.fresh = false;
+}
+
+/// "20h-3Fh: DL, N, F. Width follows DL at once."
+fn set_function(rec: &mut Record, byte: u8) {
+    rec.width = if byte & 0x10 != 0 { 8 } else { 4 };
+    (rec.n, rec.f) = (byte & 0x08 != 0, byte & 0x04 != 0);
 }
 
 fn set_counter(rec: &mut Record, mem: &[u8], counter: Counter) {
@@ -231,10 +249,7 @@ fn perform_data_read(rec: &mut Record, mem: &[u8]) -> u8 {
 
 /// "Status: bit 7 busy above 0, bits 6 to 0 the counter's address."
 fn status(rec: &Record) -> u8 {
-    let address = match rec.counter {
-        Counter::Display(cell) => display_address(rec.n, cell),
-        Counter::Pattern(cell) => cell,
-    };
+    let address = address(rec.n, rec.counter);
     if rec.busy > 0 {
         0x80 | address
     } else {

@@ -8,6 +8,7 @@ use crate::bytes::{bytes_of, record_of, RECORD_BYTES};
 use crate::case::{Case, Function};
 use crate::model::{Record, DATA_READ, DATA_WRITE, INSTRUCTION_WRITE, STATUS_READ};
 use crate::model::{LINE_BYTES, MEMORY, PLAN_BYTES, TRANSFER_BYTES};
+use crate::model::{LONGEST_BUSY, LONG_TIME, SHORT_TIME};
 
 /// A call of any of the six functions.
 pub fn any_call(chance: &mut Chance) -> Case {
@@ -72,8 +73,8 @@ fn wait(chance: &mut Chance, busy: u32) -> u32 {
         0..=3 => busy,
         4 => busy.wrapping_add(1),
         5 => busy.saturating_sub(1),
-        6 => chance.pick(&[0, 1, 40, 1_640]),
-        7 => chance.pick(&[9_999, 10_000, 10_001, u32::MAX]),
+        6 => chance.pick(&[0, 1, SHORT_TIME, LONG_TIME]),
+        7 => chance.pick(&[LONGEST_BUSY - 1, LONGEST_BUSY, LONGEST_BUSY + 1, u32::MAX]),
         8 => any % 12_000,
         _ => any,
     }

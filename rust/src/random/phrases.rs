@@ -1,22 +1,28 @@
 //! A session text in the making: lines, and phrases of lines that belong together.
 
-use super::lines::{byte_of, damaged_line, line, KINDS};
+use super::lines::{byte_of, damaged_line, line};
 use super::Chance;
-use crate::model::{DATA_READ, DATA_WRITE, INSTRUCTION_WRITE, STATUS_READ};
+use crate::model::{DATA_READ, DATA_WRITE, INSTRUCTION_WRITE, KINDS, STATUS_READ};
+use crate::model::{LONG_TIME, SHORT_TIME};
 
+const SHORT: u64 = SHORT_TIME as u64;
+const LONG: u64 = LONG_TIME as u64;
+const LONGEST_WAIT: u64 = u32::MAX as u64;
+
+/// Waits at and around the times of instructions and of reset, and at the limits.
 const WAITS: [u64; 12] = [
     0,
     1,
-    39,
-    40,
-    41,
+    SHORT - 1,
+    SHORT,
+    SHORT + 1,
     100,
-    1_639,
-    1_640,
-    1_641,
+    LONG - 1,
+    LONG,
+    LONG + 1,
     10_000,
     15_000,
-    4_294_967_295,
+    LONGEST_WAIT,
 ];
 
 /// Addresses at the edges of the lines, with and without a cell.
@@ -57,12 +63,13 @@ impl Text<'_> {
 
     fn wait(&mut self) -> u64 {
         if self.patient && self.chance.percent(90) {
-            return self.chance.pick(&[40, 40, 41, 100, 1_640, 1_641, 10_000]);
+            let enough = [SHORT, SHORT, SHORT + 1, 100, LONG, LONG + 1, 10_000];
+            return self.chance.pick(&enough);
         }
         match self.chance.below(10) {
             0..=7 => self.chance.pick(&WAITS),
             8 => self.chance.below(12_000),
-            _ => self.chance.below(4_294_967_296),
+            _ => self.chance.between(0, LONGEST_WAIT),
         }
     }
 
@@ -246,7 +253,7 @@ impl Text<'_> {
             1 => 0,
             _ => 10u64.pow(digits - 1),
         };
-        let high = (10u64.pow(digits) - 1).min(4_294_967_295);
+        let high = (10u64.pow(digits) - 1).min(LONGEST_WAIT);
         let (kind, byte) = (self.chance.pick(&KINDS), self.chance.byte());
         let wait = self.chance.between(low, high);
         self.line(kind, byte, wait);

@@ -2,7 +2,8 @@
 
 use super::Chance;
 use crate::bytes::{bytes_of, BUSY_AT, RECORD_BYTES, RECORD_ZEROS};
-use crate::model::{Counter, Half, Record, DISPLAY_CELLS, LONGEST_BUSY, MEMORY, PATTERN_CELLS};
+use crate::model::{Counter, Half, Record, DISPLAY_CELLS, MEMORY, PATTERN_CELLS};
+use crate::model::{LONGEST_BUSY, LONG_TIME, SHORT_TIME};
 
 /// A number below the bound, its edges more often than the rest.
 pub(super) fn edge_or_any(chance: &mut Chance, bound: u8) -> u8 {
@@ -63,7 +64,20 @@ fn any_busy(chance: &mut Chance) -> u32 {
         return 0;
     }
     let any = chance.between(1, LONGEST_BUSY.into()) as u32;
-    chance.pick(&[1, 39, 40, 41, 1_639, 1_640, 1_641, 9_999, 10_000, any, any])
+    let (short, long, whole) = (SHORT_TIME, LONG_TIME, LONGEST_BUSY);
+    chance.pick(&[
+        1,
+        short - 1,
+        short,
+        short + 1,
+        long - 1,
+        long,
+        long + 1,
+        whole - 1,
+        whole,
+        any,
+        any,
+    ])
 }
 
 /// A record's bytes with one thing wrong, or nearly wrong.

@@ -3,7 +3,7 @@
 use super::records::edge_or_any;
 use super::Chance;
 use crate::bytes::{WISH_BYTES, WISH_ZEROS};
-use crate::model::{DISPLAY_CELLS, MEMORY};
+use crate::model::{line_length, DISPLAY_CELLS, MEMORY};
 
 /// The bytes of a wish that the planner accepts.
 pub fn sound_wish(chance: &mut Chance) -> Vec<u8> {
@@ -11,8 +11,7 @@ pub fn sound_wish(chance: &mut Chance) -> Vec<u8> {
     if wish[0] == 1 {
         wish[1] = 0;
     }
-    let line_length = if wish[0] == 1 { 40 } else { 80 };
-    let shift = edge_or_any(chance, line_length);
+    let shift = edge_or_any(chance, line_length(wish[0] == 1));
     wish.push(chance.pick(&[0, 0, shift]));
     wish.push(edge_or_any(chance, DISPLAY_CELLS));
     wish.resize(WISH_BYTES, 0);

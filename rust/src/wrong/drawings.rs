@@ -1,7 +1,7 @@
 //! Deliberately wrong drawings of the program `glass`.
 
 use crate::drawing::{self, Dot, Drawing, Grid, Gridder, Inker, Size, Teller, Watcher, DRAWING};
-use crate::model::{Half, Record};
+use crate::model::{line_length, Half, Record};
 use crate::wrong::{each, of_calls};
 
 /// Each character's dots run from right to left.
@@ -59,9 +59,8 @@ fn second_line_shown(rec: &Record, size: Size, cell: u8) -> bool {
 
 /// The shift is told modulo the length of a line.
 fn shift_in_line(rec: &Record) -> String {
-    let length = if rec.n { 40 } else { 80 };
     drawing::state(&Record {
-        shift: rec.shift % length,
+        shift: rec.shift % line_length(rec.n),
         ..*rec
     })
 }

@@ -3,7 +3,7 @@
 
 use crate::bytes::{record_of, RECORD_BYTES};
 use crate::calls::{RecordReader, Resetter};
-use crate::model::{self, Record};
+use crate::model::{self, Record, DISPLAY_CELLS};
 
 /// Byte 23 of a record, which must be zero, is not looked at.
 fn last_byte_unseen(bytes: &[u8]) -> Option<Record> {
@@ -18,7 +18,7 @@ fn last_byte_unseen(bytes: &[u8]) -> Option<Record> {
 fn reset_clears_patterns(record: Record, memory: &mut [u8]) -> (u8, Record) {
     let (answer, new) = model::reset(record, memory);
     if answer == model::DONE {
-        memory[80..].fill(0x00);
+        memory[usize::from(DISPLAY_CELLS)..].fill(0x00);
     }
     (answer, new)
 }

@@ -33,7 +33,7 @@ fn a_read_takes_its_byte_at_the_first_half_and_its_effect_at_the_second() {
     let read = Record {
         counter: Counter::Display(1),
         register: mem[1],
-        busy: 40,
+        busy: SHORT_TIME,
         ..four_wires()
     };
     assert_eq!(after, read);
@@ -65,7 +65,7 @@ fn a_status_half_is_completed_by_any_kind_while_busy() {
         busy: 600,
         ..four_wires()
     };
-    for kind in [INSTRUCTION_WRITE, DATA_WRITE, STATUS_READ, DATA_READ] {
+    for kind in KINDS {
         let answer = if kind == STATUS_READ { DONE } else { CROSSED };
         let outcome = transfer(status, &mut mem, kind, 0, 100);
         assert_eq!(outcome, (answer, 0x50, left));

@@ -20,7 +20,10 @@ fn set() -> Record {
 
 /// The same, busy for the shorter time.
 fn set_and_busy() -> Record {
-    Record { busy: 40, ..set() }
+    Record {
+        busy: SHORT_TIME,
+        ..set()
+    }
 }
 
 /// The record after an instruction that is done.
@@ -42,7 +45,7 @@ fn clear_and_home_leave_the_entry_mode_alone() {
         shift: 0,
         counter: Counter::Display(0),
         fresh: false,
-        busy: 1_640,
+        busy: LONG_TIME,
         ..set()
     };
     for byte in 0x01..=0x03 {
@@ -160,14 +163,14 @@ fn data_writes_shift_and_data_reads_do_not() {
         assert_eq!(after.counter, Counter::Display(cell));
         assert_eq!(
             (after.shift, after.register, after.fresh, after.busy),
-            (shift, 0x41, false, 40)
+            (shift, 0x41, false, SHORT_TIME)
         );
 
         let (answer, byte, after) = transfer(set, &mut written, DATA_READ, 0, 0);
         assert_eq!((answer, byte), (STALE, 0x00));
         assert_eq!(after.counter, Counter::Display(cell));
         assert_eq!((after.shift, after.register), (79, mem[cell as usize]));
-        assert_eq!((after.fresh, after.busy), (true, 40));
+        assert_eq!((after.fresh, after.busy), (true, SHORT_TIME));
 
         // Pattern memory never shifts.
         let set = Record {

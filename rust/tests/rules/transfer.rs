@@ -99,7 +99,7 @@ fn an_address_without_a_cell_leaves_the_rest() {
         half: Half::None,
         ..half
     };
-    for kind in [INSTRUCTION_WRITE, DATA_WRITE, STATUS_READ, DATA_READ] {
+    for kind in KINDS {
         assert_eq!(
             transfer(half, &mut same, kind, 0x00, 0),
             (NO_CELL, 0, after)
