@@ -4,22 +4,14 @@
 
 use crate::bytes::{bytes_of, record_of, wish_of, RECORD_BYTES};
 use crate::font::SHAPES;
-use crate::model::{self, Reader, Record, Step, Wish, FONT, TRANSFER_BYTES};
+use crate::model::{self, Reader, Record, Size, Step, Wish, FONT, TRANSFER_BYTES};
 
 /// The six calls. Each returns the answer's number plus 256 times a byte, a count or
 /// a length.
 pub trait Calls {
     fn reset(&self, record: &mut [u8], memory: &mut [u8]) -> u32;
     fn transfer(&self, record: &mut [u8], memory: &mut [u8], kind: u8, byte: u8, wait: u32) -> u32;
-    fn picture(
-        &self,
-        record: &[u8],
-        memory: &[u8],
-        columns: u8,
-        lines: u8,
-        lit: u8,
-        out: &mut [u8],
-    ) -> u32;
+    fn picture(&self, record: &[u8], memory: &[u8], size: Size, lit: u8, out: &mut [u8]) -> u32;
     fn plan(&self, wish: &[u8], marks: &[u8], values: &[u8], out: &mut [u8]) -> u32;
     fn write_line(&self, kind: u8, byte: u8, wait: u32, out: &mut [u8]) -> u32;
     fn read_line(&self, text: &[u8], out: &mut [u8]) -> u32;
@@ -46,7 +38,7 @@ pub fn value_of(returned: u32) -> usize {
 /// the model's own names for two of them.
 pub type RecordReader = fn(&[u8]) -> Option<Record>;
 pub type Resetter = fn(Record, &mut [u8]) -> (u8, Record);
-pub type Painter = fn(&Record, &[u8], u8, u8, bool, &mut [u8], &[u8; FONT]) -> u8;
+pub type Painter = fn(&Record, &[u8], Size, bool, &mut [u8], &[u8; FONT]) -> u8;
 pub type Planner = fn(&Wish, &[u8], &[u8], &mut [u8]) -> (u8, usize);
 pub type Writer = fn(u8, u8, u32, &mut [u8]) -> (u8, usize);
 
@@ -101,19 +93,11 @@ impl Calls for Model {
 
     /// "lit: the phase of the blinking, 0 dark, any other lit."
     #[inline]
-    fn picture(
-        &self,
-        record: &[u8],
-        memory: &[u8],
-        columns: u8,
-        lines: u8,
-        lit: u8,
-        out: &mut [u8],
-    ) -> u32 {
+    fn picture(&self, record: &[u8], memory: &[u8], size: Size, lit: u8, out: &mut [u8]) -> u32 {
         let Some(found) = (self.record_of)(record) else {
             return returned(model::UNSOUND, 0);
         };
-        let answer = (self.picture)(&found, memory, columns, lines, lit != 0, out, &SHAPES);
+        let answer = (self.picture)(&found, memory, size, lit != 0, out, &SHAPES);
         returned(answer, 0)
     }
 

@@ -4,7 +4,7 @@ use std::fmt::{self, Display, Formatter};
 
 use crate::bytes::{BUSY_AT, RECORD_BYTES, WISH_BYTES, WISH_ZEROS};
 use crate::calls::{answer_of, value_of, Calls};
-use crate::model::little_endian;
+use crate::model::{little_endian, Size};
 
 /// The six functions, in the order of the header.
 #[derive(Clone, Copy, Debug, PartialEq, Eq)]
@@ -97,7 +97,7 @@ impl Case {
                 calls.transfer(record, memory, one, two, third)
             }
             (Function::Picture, [record, memory, out]) => {
-                calls.picture(record, memory, one, two, third as u8, out)
+                calls.picture(record, memory, Size::new(one, two), third as u8, out)
             }
             (Function::Plan, [wish, marks, values, out]) => calls.plan(wish, marks, values, out),
             (Function::WriteLine, [out]) => calls.write_line(one, two, third, out),

@@ -19,7 +19,7 @@ use std::time::{Duration, Instant};
 use yaropesk_model::bytes::{bytes_of, RECORD_BYTES};
 use yaropesk_model::calls::{Calls, MODEL};
 use yaropesk_model::library::Library;
-use yaropesk_model::model::{self, Half, Record, Transfer};
+use yaropesk_model::model::{self, Half, Record, Size, Transfer};
 use yaropesk_model::model::{DATA_READ, DATA_WRITE, INSTRUCTION_WRITE, STATUS_READ};
 use yaropesk_model::model::{LINE_BYTES, MEMORY, PLAN_BYTES, SESSION_BYTES, TRANSFER_BYTES};
 use yaropesk_model::random::{sound_record, whole_memory, Chance};
@@ -177,12 +177,12 @@ fn panels() -> Vec<([u8; RECORD_BYTES], Vec<u8>)> {
 }
 
 #[inline(always)]
-fn draw(calls: &impl Calls, panels: &[([u8; RECORD_BYTES], Vec<u8>)], columns: u8) -> u64 {
-    let mut out = [0; 2 * 8 * 40];
+fn draw(calls: &impl Calls, panels: &[([u8; RECORD_BYTES], Vec<u8>)], size: Size) -> u64 {
+    let mut out = vec![0; model::picture_bytes(&start(8), size)];
     let mut sum = 0;
     for _ in 0..PICTURES / PANELS {
         for (record, memory) in black_box(panels) {
-            let answer = calls.picture(record, memory, columns, 2, 1, &mut out);
+            let answer = calls.picture(record, memory, size, 1, &mut out);
             sum += u64::from(answer) + u64::from(black_box(&out)[17]);
         }
     }
@@ -192,11 +192,12 @@ fn draw(calls: &impl Calls, panels: &[([u8; RECORD_BYTES], Vec<u8>)], columns: u
 fn measure_pictures() {
     let panels = panels();
     for columns in [16, 20] {
+        let size = Size::new(columns, 2);
         measure(
             &format!("pictures, {columns} x 2"),
             PICTURES,
-            || draw(&Library, &panels, columns),
-            || draw(&MODEL, &panels, columns),
+            || draw(&Library, &panels, size),
+            || draw(&MODEL, &panels, size),
         );
     }
 }

@@ -12,8 +12,8 @@
 
 use std::fmt::{self, Display, Formatter};
 
-use yaropesk_model::drawing::{Drawing, Form, Size, Written, DRAWING};
-use yaropesk_model::model::{self, Half, SESSION_BYTES};
+use yaropesk_model::drawing::{Drawing, Form, Written, DRAWING, FORMS, USUAL};
+use yaropesk_model::model::{self, Half, Size, SESSION_BYTES};
 use yaropesk_model::options::Options;
 use yaropesk_model::programs::{run, show, shrink, Ran};
 use yaropesk_model::random::{random_panel_text, Chance};
@@ -24,12 +24,6 @@ const DEFAULT_RUNS: u64 = 2_000;
 
 /// The words' generators lie past those of the texts.
 const WORDS: u64 = 1 << 41;
-
-/// The size that need not be said.
-const USUAL: Size = Size {
-    columns: 16,
-    lines: 2,
-};
 
 /// What is asked for: a size and a form, and the words that say so.
 #[derive(Clone)]
@@ -42,11 +36,7 @@ struct Wanted {
 impl Wanted {
     fn new(size: Size, form: Form, form_first: bool) -> Wanted {
         let numbers = [size.columns.to_string(), size.lines.to_string()];
-        let form_word = match form {
-            Form::Text => None,
-            Form::Bitmap => Some(String::from("--pbm")),
-            Form::Cells => Some(String::from("--cells")),
-        };
+        let form_word = form.word().map(String::from);
         let words = match form_first {
             true => form_word.into_iter().chain(numbers).collect(),
             false => numbers.into_iter().chain(form_word).collect(),
@@ -57,11 +47,9 @@ impl Wanted {
     /// Any size and form, the usual sizes more often; the words in either order.
     fn random(chance: &mut Chance) -> Wanted {
         let any = chance.between(1, 40) as u8;
-        let size = Size {
-            columns: chance.pick(&[1, 16, 20, 40, any, any, any, any]),
-            lines: chance.pick(&[1, 2]),
-        };
-        let form = chance.pick(&[Form::Text, Form::Bitmap, Form::Cells]);
+        let columns = chance.pick(&[1, 16, 20, 40, any, any, any, any]);
+        let size = Size::new(columns, chance.pick(&[1, 2]));
+        let form = chance.pick(&FORMS);
         let mut wanted = Wanted::new(size, form, chance.percent(50));
         if size == USUAL && chance.percent(50) {
             wanted.words.retain(|word| word.starts_with("--"));
@@ -70,8 +58,8 @@ impl Wanted {
     }
 
     /// The same of a smaller glass.
-    fn sized(&self, columns: u8, lines: u8) -> Wanted {
-        Wanted::new(Size { columns, lines }, self.form, false)
+    fn sized(&self, size: Size) -> Wanted {
+        Wanted::new(size, self.form, false)
     }
 }
 
@@ -107,10 +95,11 @@ impl Pair<'_> {
 
     /// The smallest glass on which they still differ.
     fn smallest(&self, wanted: &Wanted, text: &[u8]) -> Wanted {
-        let sizes = (1..=wanted.size.lines)
-            .flat_map(|lines| (1..=wanted.size.columns).map(move |columns| (columns, lines)));
+        let sizes = (1..=wanted.size.lines).flat_map(|lines| {
+            (1..=wanted.size.columns).map(move |columns| Size::new(columns, lines))
+        });
         sizes
-            .map(|(columns, lines)| wanted.sized(columns, lines))
+            .map(|size| wanted.sized(size))
             .find(|smaller| self.differs(smaller, text))
             .unwrap_or_else(|| wanted.clone())
     }

@@ -16,7 +16,8 @@ mod session;
 mod transfer;
 
 pub use answers::*;
-pub use dots::{line_length, picture, shown_cell, FONT};
+pub use dots::{line_length, picture, picture_bytes, shape, shown_cell};
+pub use dots::{Size, FONT, SHAPE_ROWS};
 pub use lines::{letter, read_line, write_line, Line, LINE_BYTES};
 pub use plan::{little_endian, transfer_bytes, transfers_of};
 pub use plan::{plan, Wish, PLAN_BYTES, TRANSFER_BYTES};

@@ -6,7 +6,8 @@ use super::wishes::{marks, wish};
 use super::Chance;
 use crate::bytes::{bytes_of, record_of, RECORD_BYTES};
 use crate::case::{Case, Function};
-use crate::model::{Record, DATA_READ, DATA_WRITE, INSTRUCTION_WRITE, STATUS_READ};
+use crate::model::{picture_bytes, record_after_reset, Record, Size};
+use crate::model::{DATA_READ, DATA_WRITE, INSTRUCTION_WRITE, STATUS_READ};
 use crate::model::{LINE_BYTES, MEMORY, PLAN_BYTES, TRANSFER_BYTES};
 use crate::model::{LONGEST_BUSY, LONG_TIME, SHORT_TIME};
 
@@ -110,22 +111,30 @@ fn reset(chance: &mut Chance) -> Case {
 // Pictures and plans
 // ---------------------------------------------------------------------------
 
-fn picture(chance: &mut Chance) -> Case {
+/// A size, now and then out of range.
+fn size(chance: &mut Chance) -> Size {
     let any = chance.between(1, 40) as u8;
     let columns = chance.pick(&[1, 16, 16, 20, 20, 39, 40, any, any, any]);
     let lines = chance.pick(&[1, 2, 2]);
-    let (columns, lines) = match chance.below(50) {
-        0 => (chance.pick(&[0, 41, 42, 255]), lines),
-        1 => (columns, chance.pick(&[0, 3, 255])),
-        2 => (chance.byte(), chance.byte()),
-        _ => (columns, lines),
-    };
+    match chance.below(50) {
+        0 => Size::new(chance.pick(&[0, 41, 42, 255]), lines),
+        1 => Size::new(columns, chance.pick(&[0, 3, 255])),
+        2 => Size::new(chance.byte(), chance.byte()),
+        _ => Size::new(columns, lines),
+    }
+}
+
+fn picture(chance: &mut Chance) -> Case {
+    let size = size(chance);
     let lit = chance.pick(&[0, 0, 1, 1, 2, 255]);
-    let wanted = usize::from(columns) * usize::from(lines) * 8;
+    let (record, memory) = (record(chance), memory(chance));
+    // What is no record wants as many bytes as one after reset.
+    let found = record_of(&record).unwrap_or_else(record_after_reset);
+    let out = output(chance, picture_bytes(&found, size));
     Case {
         function: Function::Picture,
-        buffers: vec![record(chance), memory(chance), output(chance, wanted)],
-        numbers: [columns.into(), lines.into(), lit],
+        buffers: vec![record, memory, out],
+        numbers: [size.columns.into(), size.lines.into(), lit],
     }
 }
 

@@ -1,50 +1,47 @@
 //! Wrong readings of document 01's chapter "The dots".
 
 use crate::calls::Painter;
-use crate::model::{self, Record, FONT};
+use crate::model::{self, Record, Size, FONT};
 
 /// With N=0 a panel of two lines is drawn as with N=1.
 fn second_line_drawn(
     record: &Record,
     memory: &[u8],
-    columns: u8,
-    lines: u8,
+    size: Size,
     lit: bool,
     out: &mut [u8],
     font: &[u8; FONT],
 ) -> u8 {
     let two_lines = Record {
-        n: record.n || lines == 2,
+        n: record.n || size.lines == 2,
         ..*record
     };
-    model::picture(&two_lines, memory, columns, lines, lit, out, font)
+    model::picture(&two_lines, memory, size, lit, out, font)
 }
 
 /// The blinking place is lit in both phases.
 fn always_lit(
     record: &Record,
     memory: &[u8],
-    columns: u8,
-    lines: u8,
+    size: Size,
     _lit: bool,
     out: &mut [u8],
     font: &[u8; FONT],
 ) -> u8 {
-    model::picture(record, memory, columns, lines, true, out, font)
+    model::picture(record, memory, size, true, out, font)
 }
 
 /// One byte past the picture is overwritten.
 fn picture_runs_over(
     record: &Record,
     memory: &[u8],
-    columns: u8,
-    lines: u8,
+    size: Size,
     lit: bool,
     out: &mut [u8],
     font: &[u8; FONT],
 ) -> u8 {
-    let answer = model::picture(record, memory, columns, lines, lit, out, font);
-    let wanted = usize::from(columns) * usize::from(lines) * 8;
+    let answer = model::picture(record, memory, size, lit, out, font);
+    let wanted = model::picture_bytes(record, size);
     if let (model::DONE, Some(past)) = (answer, out.get_mut(wanted)) {
         *past = 0;
     }

@@ -1,7 +1,7 @@
 //! Deliberately wrong drawings of the program `glass`.
 
-use crate::drawing::{self, Dot, Drawing, Grid, Gridder, Inker, Size, Teller, Watcher, DRAWING};
-use crate::model::{line_length, Half, Record};
+use crate::drawing::{self, Dot, Drawing, Grid, Gridder, Inker, Teller, Watcher, DRAWING};
+use crate::model::{line_length, Half, Record, Size};
 use crate::wrong::{each, of_calls};
 
 /// Each character's dots run from right to left.
@@ -29,7 +29,7 @@ fn gap_too_many(picture: &[u8], size: Size) -> Grid {
 fn lines_joined(picture: &[u8], size: Size) -> Grid {
     let mut grid = drawing::grid(picture, size);
     if size.lines == 2 {
-        grid.remove(8);
+        grid.remove(grid.len() / 2);
     }
     grid
 }

@@ -2,14 +2,15 @@
 
 use yaropesk_model::model::*;
 
-use crate::given::{font, plain_wish, shape, Bench};
+use crate::given::{font, plain_wish, rows, Bench};
 
 /// The rows at the start of the two lines.
 fn first_column(bench: &Bench) -> Vec<u8> {
-    let mut out = [0xEE; 2 * 8 * 8];
-    let answer = picture(&bench.rec, &bench.mem, 8, 2, false, &mut out, &font());
+    let size = Size::new(8, 2);
+    let mut out = vec![0xEE; picture_bytes(&bench.rec, size)];
+    let answer = picture(&bench.rec, &bench.mem, size, false, &mut out, &font());
     assert_eq!(answer, DONE);
-    (0..16).map(|row| out[row * 8]).collect()
+    out.into_iter().step_by(8).collect()
 }
 
 #[test]
@@ -73,7 +74,7 @@ fn p5_shifts() {
             *code = 0x20 + cell as u8;
         }
         bench.instruction(byte);
-        let expected = [shape(0x20 + first), shape(0x20 + second)].concat();
+        let expected = [rows(0x20 + first), rows(0x20 + second)].concat();
         assert_eq!(first_column(&bench), expected);
     }
 }

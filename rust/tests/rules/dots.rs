@@ -2,38 +2,33 @@
 
 use yaropesk_model::model::*;
 
-use crate::given::{font, ready, shape, unsound_records};
+use crate::given::{font, ready, rows, unsound_records};
 
 #[test]
 fn picture_refuses() {
     let (rec, mem) = ready();
     let font = font();
     let mut out = [0xEE; 640];
+    let none = Size::new(0, 0);
     for unsound in unsound_records() {
-        assert_eq!(
-            picture(&unsound, &mem[1..], 0, 0, true, &mut out, &font),
-            UNSOUND
-        );
+        let answer = picture(&unsound, &mem[1..], none, true, &mut out, &font);
+        assert_eq!(answer, UNSOUND);
     }
-    assert_eq!(
-        picture(&rec, &mem[1..], 0, 0, true, &mut out, &font),
-        WRONG_LENGTH
-    );
+    let answer = picture(&rec, &mem[1..], none, true, &mut out, &font);
+    assert_eq!(answer, WRONG_LENGTH);
     for (columns, lines) in [(0, 1), (41, 1), (1, 0), (1, 3), (255, 255)] {
-        let none = &mut out[..0];
-        assert_eq!(
-            picture(&rec, &mem, columns, lines, true, none, &font),
-            OUT_OF_RANGE
-        );
+        let (size, empty) = (Size::new(columns, lines), &mut out[..0]);
+        let answer = picture(&rec, &mem, size, true, empty, &font);
+        assert_eq!(answer, OUT_OF_RANGE);
     }
-    for (columns, lines) in [(1, 1), (40, 2), (16, 2)] {
-        let short = &mut out[..lines * 8 * columns - 1];
-        let answer = picture(&rec, &mem, columns as u8, lines as u8, true, short, &font);
-        assert_eq!(answer, TOO_SHORT);
+    for (columns, lines, wanted) in [(1, 1, 8), (40, 2, 640), (16, 2, 256)] {
+        let (size, short) = (Size::new(columns, lines), &mut out[..wanted - 1]);
+        assert_eq!(picture(&rec, &mem, size, true, short, &font), TOO_SHORT);
     }
     assert_eq!(out, [0xEE; 640]);
     // D=0: zeros over exactly the picture's bytes.
-    assert_eq!(picture(&rec, &mem, 16, 2, true, &mut out, &font), DONE);
+    let usual = Size::new(16, 2);
+    assert_eq!(picture(&rec, &mem, usual, true, &mut out, &font), DONE);
     assert_eq!(out[..256], [0; 256]);
     assert_eq!(out[256..], [0xEE; 384]);
 }
@@ -54,7 +49,8 @@ fn two_lines() -> Record {
 fn two_by_two(rec: &Record, lit: bool) -> [u8; 32] {
     let (_, mem) = ready();
     let mut out = [0xEE; 32];
-    assert_eq!(picture(rec, &mem, 2, 2, lit, &mut out, &font()), DONE);
+    let answer = picture(rec, &mem, Size::new(2, 2), lit, &mut out, &font());
+    assert_eq!(answer, DONE);
     out
 }
 
@@ -67,7 +63,7 @@ fn last_place(rec: &Record, lit: bool) -> Vec<u8> {
 /// The shape that stands there.
 fn last_shape() -> Vec<u8> {
     let (_, mem) = ready();
-    shape(mem[41])
+    rows(mem[41])
 }
 
 #[test]
@@ -82,7 +78,7 @@ fn each_position_shows_its_cell_and_the_cursor_its_last_row() {
         let (line, row, column) = (at / 16, at / 2 % 8, at % 2);
         let code = mem[line * 40 + column];
         let cursor = (line, row, column) == (1, 7, 1);
-        let expected = if cursor { 0x1F } else { shape(code)[row] };
+        let expected = if cursor { 0x1F } else { rows(code)[row] };
         assert_eq!(dots, expected, "line {line}, row {row}, column {column}");
     }
 }

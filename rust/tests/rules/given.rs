@@ -101,14 +101,15 @@ fn unsound_halves() -> Vec<Record> {
 pub fn font() -> [u8; FONT] {
     let mut font = [0; FONT];
     for (at, row) in font.iter_mut().enumerate() {
-        *row = if at % 8 == 7 { 0 } else { (at * 7 % 31) as u8 };
+        let last = at % SHAPE_ROWS == SHAPE_ROWS - 1;
+        *row = if last { 0 } else { (at * 7 % 31) as u8 };
     }
     font
 }
 
-/// The shape of a code in that table.
-pub fn shape(code: u8) -> Vec<u8> {
-    font()[usize::from(code) * 8..][..8].to_vec()
+/// The rows of a code in that table.
+pub fn rows(code: u8) -> Vec<u8> {
+    shape(&font(), code).to_vec()
 }
 
 /// All off, nothing shifted, the cursor on cell 0.
