@@ -4,7 +4,7 @@
 
 use crate::bytes::{bytes_of, record_of, wish_of, RECORD_BYTES};
 use crate::font::SHAPES;
-use crate::model::{self, Reader, Record, Size, Step, Wish, FONT, TRANSFER_BYTES};
+use crate::model::{self, Answer, Reader, Record, Size, Step, Wish, FONT, TRANSFER_BYTES};
 
 /// The six calls. Each returns the answer's number plus 256 times a byte, a count or
 /// a length.
@@ -18,12 +18,12 @@ pub trait Calls {
 }
 
 /// What a call returns: "answer + 256 x byte", count or length.
-pub fn returned(answer: u8, value: usize) -> u32 {
+pub fn returned(answer: Answer, value: usize) -> u32 {
     u32::from(answer) + 256 * value as u32
 }
 
-pub fn answer_of(returned: u32) -> u8 {
-    returned as u8
+pub fn answer_of(returned: u32) -> Answer {
+    returned as Answer
 }
 
 pub fn value_of(returned: u32) -> usize {
@@ -37,10 +37,10 @@ pub fn value_of(returned: u32) -> usize {
 /// Functions with the shapes of `record_of` and of the model's; `Step` and `Reader` are
 /// the model's own names for two of them.
 pub type RecordReader = fn(&[u8]) -> Option<Record>;
-pub type Resetter = fn(Record, &mut [u8]) -> (u8, Record);
-pub type Painter = fn(&Record, &[u8], Size, bool, &mut [u8], &[u8; FONT]) -> u8;
-pub type Planner = fn(&Wish, &[u8], &[u8], &mut [u8]) -> (u8, usize);
-pub type Writer = fn(u8, u8, u32, &mut [u8]) -> (u8, usize);
+pub type Resetter = fn(Record, &mut [u8]) -> (Answer, Record);
+pub type Painter = fn(&Record, &[u8], Size, bool, &mut [u8], &[u8; FONT]) -> Answer;
+pub type Planner = fn(&Wish, &[u8], &[u8], &mut [u8]) -> (Answer, usize);
+pub type Writer = fn(u8, u8, u32, &mut [u8]) -> (Answer, usize);
 
 /// The functions of the model, and the reading of a record's bytes. A wrong model is
 /// this one with a wrong function in it.

@@ -4,7 +4,9 @@ use std::fmt::{self, Display, Formatter};
 
 use crate::bytes::{BUSY_AT, RECORD_BYTES, WISH_BYTES, WISH_ZEROS};
 use crate::calls::{answer_of, value_of, Calls};
-use crate::model::{little_endian, Size};
+use crate::model::{little_endian, Answer, Size};
+use crate::model::{BAD_LINE, BUSY, CROSSED, DONE, FIRST_HALF, NOT_A_WISH, NO_CELL};
+use crate::model::{OUT_OF_RANGE, STALE, TOO_SHORT, UNSOUND, WRONG_KIND, WRONG_LENGTH};
 
 /// The six functions, in the order of the header.
 #[derive(Clone, Copy, Debug, PartialEq, Eq)]
@@ -38,16 +40,25 @@ impl Function {
         }
     }
 
-    /// The answers that it can give. 9 is none of them: a counter on no cell makes the
-    /// record unsound, and 1 comes before 9.
-    pub fn answers(self) -> &'static [u8] {
+    /// The answers that it can give.
+    pub fn answers(self) -> &'static [Answer] {
         match self {
-            Function::Reset => &[0, 1, 2],
-            Function::Transfer => &[0, 1, 2, 3, 4, 5, 6, 7, 8],
-            Function::Picture => &[0, 1, 2, 10, 11],
-            Function::Plan => &[0, 2, 11, 13],
-            Function::WriteLine => &[0, 3, 11],
-            Function::ReadLine => &[0, 11, 12],
+            Function::Reset => &[DONE, UNSOUND, WRONG_LENGTH],
+            Function::Transfer => &[
+                DONE,
+                UNSOUND,
+                WRONG_LENGTH,
+                WRONG_KIND,
+                BUSY,
+                FIRST_HALF,
+                NO_CELL,
+                STALE,
+                CROSSED,
+            ],
+            Function::Picture => &[DONE, UNSOUND, WRONG_LENGTH, OUT_OF_RANGE, TOO_SHORT],
+            Function::Plan => &[DONE, WRONG_LENGTH, TOO_SHORT, NOT_A_WISH],
+            Function::WriteLine => &[DONE, WRONG_KIND, TOO_SHORT],
+            Function::ReadLine => &[DONE, TOO_SHORT, BAD_LINE],
         }
     }
 

@@ -12,4 +12,5 @@ pub mod model;
 pub mod options;
 pub mod programs;
 pub mod random;
+pub mod tally;
 pub mod wrong;

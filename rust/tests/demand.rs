@@ -4,7 +4,7 @@
 use yaropesk_model::calls::{Calls, Model, Planner, MODEL};
 use yaropesk_model::demand::Trial;
 use yaropesk_model::library::Library;
-use yaropesk_model::model::{self, Wish, TRANSFER_BYTES};
+use yaropesk_model::model::{self, Answer, Wish, TRANSFER_BYTES};
 use yaropesk_model::random::Chance;
 use yaropesk_model::wrong;
 
@@ -23,7 +23,7 @@ fn the_library_and_the_model_keep_it() {
 }
 
 /// After the opening every wait is 1, so that the board does not wait for Home.
-fn hurried(wish: &Wish, marks: &[u8], values: &[u8], out: &mut [u8]) -> (u8, usize) {
+fn hurried(wish: &Wish, marks: &[u8], values: &[u8], out: &mut [u8]) -> (Answer, usize) {
     let (answer, count) = model::plan(wish, marks, values, out);
     for record in out.chunks_exact_mut(TRANSFER_BYTES).take(count).skip(5) {
         record[2..].copy_from_slice(&1u32.to_le_bytes());
@@ -32,7 +32,7 @@ fn hurried(wish: &Wish, marks: &[u8], values: &[u8], out: &mut [u8]) -> (u8, usi
 }
 
 /// The cursor is forgotten: the last address set is that of cell 0.
-fn cursor_forgotten(wish: &Wish, marks: &[u8], values: &[u8], out: &mut [u8]) -> (u8, usize) {
+fn cursor_forgotten(wish: &Wish, marks: &[u8], values: &[u8], out: &mut [u8]) -> (Answer, usize) {
     let wish = Wish { cursor: 0, ..*wish };
     model::plan(&wish, marks, values, out)
 }

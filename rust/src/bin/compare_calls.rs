@@ -15,8 +15,10 @@ use yaropesk_model::calls::{answer_of, Model, MODEL};
 use yaropesk_model::case::{Case, Function, Outcome, FUNCTIONS};
 use yaropesk_model::demand::Trial;
 use yaropesk_model::library::Library;
+use yaropesk_model::model::Answer;
 use yaropesk_model::options::Options;
 use yaropesk_model::random::{self, Chance};
+use yaropesk_model::tally::Tally;
 use yaropesk_model::wrong;
 
 const DEFAULT_SEED: u64 = 44_780;
@@ -30,7 +32,7 @@ const TRIALS: u64 = 1_000;
 struct Comparison {
     model: Model,
     seed: u64,
-    counts: [[u64; 256]; FUNCTIONS.len()],
+    counts: [Tally; FUNCTIONS.len()],
 }
 
 /// Why a run stops, ready to be shown.
@@ -43,8 +45,7 @@ impl Comparison {
         if ours != case.run(&self.model) {
             return Err(self.difference(case));
         }
-        let answer = usize::from(answer_of(ours.returned));
-        self.counts[case.function as usize][answer] += 1;
+        self.counts[case.function as usize].count(answer_of(ours.returned));
         Ok(ours)
     }
 
@@ -109,7 +110,8 @@ impl Comparison {
     /// Every answer that a function can give has come up, and no other.
     fn all_answers_seen(&self) -> Stop {
         for function in FUNCTIONS {
-            for (answer, &times) in (0..=255).zip(&self.counts[function as usize]) {
+            for answer in Answer::MIN..=Answer::MAX {
+                let times = self.counts[function as usize].times(answer);
                 if function.answers().contains(&answer) != (times > 0) {
                     let name = function.name();
                     return Err(format!("{name} gave answer {answer} {times} times"));
@@ -128,18 +130,8 @@ impl Comparison {
     }
 
     fn counted(&self, function: Function) -> String {
-        let counts = &self.counts[function as usize];
-        let answers: Vec<String> = function
-            .answers()
-            .iter()
-            .map(|&answer| format!("{answer}: {}", counts[usize::from(answer)]))
-            .collect();
-        let calls: u64 = counts.iter().sum();
-        format!(
-            "{} {calls} calls, answers {}",
-            function.name(),
-            answers.join(", ")
-        )
+        let (name, counts) = (function.name(), &self.counts[function as usize]);
+        format!("{name} {} calls, answers {counts}", counts.sum())
     }
 }
 
@@ -148,14 +140,14 @@ fn compare(model: Model, seed: u64, calls: u64) -> bool {
     let mut comparison = Comparison {
         model,
         seed,
-        counts: [[0; 256]; FUNCTIONS.len()],
+        counts: Default::default(),
     };
     let stop = comparison.run(calls);
     if let Err(why) = &stop {
         println!("difference, seed {seed}: {why}");
         return true;
     }
-    let all: u64 = comparison.counts.iter().flatten().sum();
+    let all: u64 = comparison.counts.iter().map(Tally::sum).sum();
     println!("{all} calls of seed {seed}: no difference");
     for function in FUNCTIONS {
         println!("  {}", comparison.counted(function));

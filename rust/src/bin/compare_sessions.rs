@@ -11,10 +11,11 @@
 //! exit is 0 if each was found out that can be, and 1 if one was not.
 
 use yaropesk_model::calls::{Model, MODEL};
-use yaropesk_model::model;
+use yaropesk_model::model::{self, Answer};
 use yaropesk_model::options::Options;
 use yaropesk_model::programs::{run, show, shrink};
 use yaropesk_model::random::random_text;
+use yaropesk_model::tally::Tally;
 use yaropesk_model::wrong;
 
 const DEFAULT_SEED: u64 = 44_780;
@@ -42,7 +43,7 @@ fn show_difference(program: &str, model: Model, text: &[u8]) {
 /// Compares on so many texts; true when a difference was found (and shown).
 fn compare(program: &str, model: Model, seed: u64, texts: u64) -> bool {
     let (mut bytes, mut at_limit, mut too_long) = (0, 0, 0);
-    let mut answers = [0u64; 16];
+    let mut answers = Tally::default();
     for number in 0..texts {
         let text = random_text(seed, number);
         let length = text.len();
@@ -58,24 +59,20 @@ fn compare(program: &str, model: Model, seed: u64, texts: u64) -> bool {
     }
     println!("{texts} texts of seed {seed}, {bytes} bytes: no difference");
     println!("{at_limit} texts of 65,536 bytes, {too_long} longer");
-    let seen = answers.iter().enumerate().filter(|(_, &times)| times > 0);
-    let lines: Vec<String> = seen
-        .map(|(answer, times)| format!("{answer}: {times}"))
-        .collect();
-    println!("answers seen: {}", lines.join(", "));
+    println!("answers seen: {answers}");
     false
 }
 
 /// How often each answer stands in a report, to show what the texts reach.
-fn count_answers(report: &[u8], answers: &mut [u64; 16]) {
+fn count_answers(report: &[u8], answers: &mut Tally) {
     for line in report.split(|&byte| byte == b'\n').skip(1) {
         let answer = line
             .split(|&byte| byte == b'\t')
             .nth(1)
             .and_then(|field| std::str::from_utf8(field).ok())
-            .and_then(|field| field.parse::<usize>().ok());
+            .and_then(|field| field.parse::<Answer>().ok());
         if let Some(answer) = answer {
-            answers[answer.min(15)] += 1;
+            answers.count(answer);
         }
     }
 }

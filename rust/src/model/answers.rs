@@ -1,17 +1,33 @@
-//! Document 01, "What each number says".
+//! Document 01, "What each number says": every answer has its name here, and is known by
+//! it elsewhere.
 
-/// "What each number says". 9, "counter on no cell", has no name here: a counter
-/// on no cell makes the record unsound, and 1 comes before 9.
-pub const DONE: u8 = 0;
-pub const UNSOUND: u8 = 1;
-pub const WRONG_LENGTH: u8 = 2;
-pub const WRONG_KIND: u8 = 3;
-pub const BUSY: u8 = 4;
-pub const FIRST_HALF: u8 = 5;
-pub const NO_CELL: u8 = 6;
-pub const STALE: u8 = 7;
-pub const CROSSED: u8 = 8;
-pub const OUT_OF_RANGE: u8 = 10;
-pub const TOO_SHORT: u8 = 11;
-pub const BAD_LINE: u8 = 12;
-pub const NOT_A_WISH: u8 = 13;
+/// The number of an answer.
+pub type Answer = u8;
+
+/// "done"
+pub const DONE: Answer = 0;
+/// "record unsound". 9, "counter on no cell", has no name here: a counter on no cell makes
+/// the record unsound, and 1 comes before 9.
+pub const UNSOUND: Answer = 1;
+/// "memory, marks or values not 144 long"
+pub const WRONG_LENGTH: Answer = 2;
+/// "kind above 3, or a read with a byte"
+pub const WRONG_KIND: Answer = 3;
+/// "busy"
+pub const BUSY: Answer = 4;
+/// "first half taken"
+pub const FIRST_HALF: Answer = 5;
+/// "display address without a cell"
+pub const NO_CELL: Answer = 6;
+/// "stale read, done"
+pub const STALE: Answer = 7;
+/// "crossed halves, done"
+pub const CROSSED: Answer = 8;
+/// "columns or lines out of range"
+pub const OUT_OF_RANGE: Answer = 10;
+/// "output too short"
+pub const TOO_SHORT: Answer = 11;
+/// "bad line"
+pub const BAD_LINE: Answer = 12;
+/// "not a wish"
+pub const NOT_A_WISH: Answer = 13;

@@ -1,7 +1,7 @@
 //! Document 01, "The dots".
 
 use super::record::place;
-use super::{is_sound, Counter, Record, MEMORY};
+use super::{is_sound, Answer, Counter, Record, MEMORY};
 use super::{DONE, OUT_OF_RANGE, TOO_SHORT, UNSOUND, WRONG_LENGTH};
 
 /// "a fixed table of 256 x 8 rows".
@@ -51,7 +51,7 @@ pub fn picture(
     lit: bool,
     out: &mut [u8],
     font: &[u8; FONT],
-) -> u8 {
+) -> Answer {
     if !is_sound(rec) {
         return UNSOUND;
     }

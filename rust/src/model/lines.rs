@@ -1,7 +1,7 @@
 //! Document 01, "Session lines": one line, written and read.
 
 use super::transfer::is_bad;
-use super::{BAD_LINE, DONE, TOO_SHORT, WRONG_KIND};
+use super::{Answer, BAD_LINE, DONE, TOO_SHORT, WRONG_KIND};
 
 /// "at most 16 bytes; the writer wants 16".
 pub const LINE_BYTES: usize = 16;
@@ -28,7 +28,7 @@ fn hex_value(digit: u8) -> Option<u8> {
 }
 
 /// Writes one line: answer and length. "Writer: 3, 11."
-pub fn write_line(kind: u8, byte: u8, wait: u32, out: &mut [u8]) -> (u8, usize) {
+pub fn write_line(kind: u8, byte: u8, wait: u32, out: &mut [u8]) -> (Answer, usize) {
     if is_bad(kind, byte) {
         return (WRONG_KIND, 0);
     }
@@ -50,7 +50,7 @@ pub fn write_line(kind: u8, byte: u8, wait: u32, out: &mut [u8]) -> (u8, usize) 
 }
 
 /// What the reader found in a good line.
-#[derive(Clone, Copy, Debug, PartialEq, Eq)]
+#[derive(Clone, Copy, Debug, Default, PartialEq, Eq)]
 pub struct Line {
     pub kind: u8,
     pub byte: u8,
@@ -60,18 +60,10 @@ pub struct Line {
 
 /// Reads the line at the start of the text: answer, kind, byte, wait, length.
 /// "Reader: 12." Reading 16: a refusal returns zeros for everything.
-pub fn read_line(text: &[u8]) -> (u8, Line) {
+pub fn read_line(text: &[u8]) -> (Answer, Line) {
     match parse_line(text) {
         Some(line) => (DONE, line),
-        None => (
-            BAD_LINE,
-            Line {
-                kind: 0,
-                byte: 0,
-                wait: 0,
-                length: 0,
-            },
-        ),
+        None => (BAD_LINE, Line::default()),
     }
 }
 

@@ -3,8 +3,8 @@
 use super::record::{address, place};
 use super::transfer::time_of;
 use super::{line_length, Counter, Transfer, DISPLAY_CELLS, MEMORY, PATTERN_CELLS};
+use super::{Answer, DONE, NOT_A_WISH, TOO_SHORT, WRONG_LENGTH};
 use super::{DATA_WRITE, INSTRUCTION_WRITE, SHORT_TIME};
-use super::{DONE, NOT_A_WISH, TOO_SHORT, WRONG_LENGTH};
 
 /// "the buffer must have 2,808 bytes".
 pub const PLAN_BYTES: usize = 2_808;
@@ -101,7 +101,7 @@ fn bit(value: bool, number: u8) -> u8 {
 }
 
 /// The transfers for a wish: answer and count of records. "Plan: 2, 13, 11."
-pub fn plan(wish: &Wish, marks: &[u8], values: &[u8], out: &mut [u8]) -> (u8, usize) {
+pub fn plan(wish: &Wish, marks: &[u8], values: &[u8], out: &mut [u8]) -> (Answer, usize) {
     if marks.len() != MEMORY || values.len() != MEMORY {
         return (WRONG_LENGTH, 0);
     }

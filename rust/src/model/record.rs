@@ -1,6 +1,6 @@
 //! Document 01, "The controller's record and memory".
 
-use super::{DONE, WRONG_LENGTH};
+use super::{Answer, DONE, WRONG_LENGTH};
 
 /// "Memory is lent, 144 bytes: display cells 0 to 79, then pattern cells 0 to 63."
 pub const MEMORY: usize = 144;
@@ -96,7 +96,7 @@ pub fn record_after_reset() -> Record {
 /// "Reset: display cells 20h, pattern cells untouched", and the record above.
 /// "Reset: 2"; "a refused reset returns the record it was given". Reading 8: the
 /// record is not looked at.
-pub fn reset(rec: Record, mem: &mut [u8]) -> (u8, Record) {
+pub fn reset(rec: Record, mem: &mut [u8]) -> (Answer, Record) {
     if mem.len() != MEMORY {
         return (WRONG_LENGTH, rec);
     }

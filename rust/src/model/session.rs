@@ -1,6 +1,7 @@
 //! Document 01, "Session lines": the session program.
 
-use super::{read_line, record_after_reset, reset, transfer, Line, Record, BAD_LINE, DONE, MEMORY};
+use super::{read_line, record_after_reset, reset, transfer};
+use super::{Answer, Line, Record, DONE, MEMORY};
 
 /// "reads standard input up to 65,536 bytes".
 pub const SESSION_BYTES: usize = 65_536;
@@ -10,9 +11,9 @@ pub const TOO_LONG: &[u8] = b"too long\n";
 pub const HEADER: &str = "no\tanswer\tbyte\tbusy\n";
 
 /// A function with the shape of `read_line`.
-pub type Reader = fn(&[u8]) -> (u8, Line);
+pub type Reader = fn(&[u8]) -> (Answer, Line);
 /// A function with the shape of `transfer`.
-pub type Step = fn(Record, &mut [u8], u8, u8, u32) -> (u8, u8, Record);
+pub type Step = fn(Record, &mut [u8], u8, u8, u32) -> (Answer, u8, Record);
 
 /// The whole report of the session program on an input.
 pub fn session(text: &[u8]) -> Vec<u8> {
@@ -38,16 +39,31 @@ pub struct Played {
     pub bad_row: Option<usize>,
 }
 
+impl Played {
+    /// "starts from reset with pattern cells 00h", "prints the header".
+    fn start() -> Played {
+        let mut mem = [0x00; MEMORY];
+        let (_, rec) = reset(record_after_reset(), &mut mem);
+        Played {
+            rec,
+            mem,
+            report: String::from(HEADER),
+            bad_row: None,
+        }
+    }
+
+    /// "its number from 1, answer, byte (two upper-case hex digits) and busy left,
+    /// tab-parted."
+    fn row(&mut self, number: usize, answer: Answer, byte: u8) {
+        let busy = self.rec.busy;
+        let row = format!("{number}\t{answer}\t{byte:02X}\t{busy}\n");
+        self.report.push_str(&row);
+    }
+}
+
 /// Plays a text of any length, with a reader and a transfer of the caller's.
 pub fn play(text: &[u8], read: Reader, step: Step) -> Played {
-    // "starts from reset with pattern cells 00h"
-    let mut mem = [0x00; MEMORY];
-    let (_, mut rec) = reset(record_after_reset(), &mut mem);
-
-    // "prints the header, then for each transfer its number from 1, answer, byte
-    // (two upper-case hex digits) and busy left, tab-parted."
-    let mut report = String::from(HEADER);
-    let mut bad_row = None;
+    let mut played = Played::start();
     let mut rest = text;
     let mut number = 1;
     while !rest.is_empty() {
@@ -55,20 +71,16 @@ pub fn play(text: &[u8], read: Reader, step: Step) -> Played {
         // "A bad line prints its number, answer 12, byte 00 and the busy as it
         // stands, and ends it."
         if read_answer != DONE {
-            bad_row = Some(report.len());
-            report.push_str(&format!("{number}\t{BAD_LINE}\t00\t{}\n", rec.busy));
+            played.bad_row = Some(played.report.len());
+            played.row(number, read_answer, 0x00);
             break;
         }
-        let (answer, byte, new) = step(rec, &mut mem, line.kind, line.byte, line.wait);
-        rec = new;
-        report.push_str(&format!("{number}\t{answer}\t{byte:02X}\t{}\n", rec.busy));
+        let (kind, byte, wait) = (line.kind, line.byte, line.wait);
+        let (answer, byte, rec) = step(played.rec, &mut played.mem, kind, byte, wait);
+        played.rec = rec;
+        played.row(number, answer, byte);
         rest = &rest[line.length..];
         number += 1;
     }
-    Played {
-        rec,
-        mem,
-        report,
-        bad_row,
-    }
+    played
 }

@@ -1,7 +1,7 @@
 //! Document 01, "One transfer".
 
 use super::record::{address, blank_display, display_cell, place, step, step_counter};
-use super::{is_sound, Counter, Half, Record, DISPLAY_CELLS, MEMORY};
+use super::{is_sound, Answer, Counter, Half, Record, DISPLAY_CELLS, MEMORY};
 use super::{BUSY, CROSSED, DONE, FIRST_HALF, NO_CELL, STALE, UNSOUND, WRONG_KIND, WRONG_LENGTH};
 
 /// "A transfer is a kind (0 instruction write, 1 data write, 2 status read,
@@ -43,7 +43,13 @@ pub(super) fn is_bad(kind: u8, byte: u8) -> bool {
 }
 
 /// One transfer: answer, byte, new record. "Transfer: 1, 2, 3, 4, 9, 6, 7, 8."
-pub fn transfer(rec: Record, mem: &mut [u8], kind: u8, byte: u8, wait: u32) -> (u8, u8, Record) {
+pub fn transfer(
+    rec: Record,
+    mem: &mut [u8],
+    kind: u8,
+    byte: u8,
+    wait: u32,
+) -> (Answer, u8, Record) {
     if !is_sound(&rec) {
         return (UNSOUND, 0x00, rec);
     }
@@ -76,7 +82,7 @@ pub fn transfer(rec: Record, mem: &mut [u8], kind: u8, byte: u8, wait: u32) -> (
 }
 
 /// "Width 8: the transfer is complete at once." "A write returns byte 00h".
-fn whole(mut rec: Record, mem: &mut [u8], kind: u8, byte: u8) -> (u8, u8, Record) {
+fn whole(mut rec: Record, mem: &mut [u8], kind: u8, byte: u8) -> (Answer, u8, Record) {
     match kind {
         INSTRUCTION_WRITE => {
             let answer = perform_instruction(&mut rec, mem, byte);
@@ -98,7 +104,7 @@ fn whole(mut rec: Record, mem: &mut [u8], kind: u8, byte: u8) -> (u8, u8, Record
 /// "Width 4: bits 7 to 4 count. The first transfer is answered 5; a read returns
 /// the high half in bits 7 to 4 with zeros below." "A read's byte is taken at the
 /// first half; its effect comes at the second."
-fn first_half(mut rec: Record, kind: u8, byte: u8) -> (u8, u8, Record) {
+fn first_half(mut rec: Record, kind: u8, byte: u8) -> (Answer, u8, Record) {
     let (half, returned) = match kind {
         INSTRUCTION_WRITE => (Half::InstructionWrite(byte >> 4), 0x00),
         DATA_WRITE => (Half::DataWrite(byte >> 4), 0x00),
@@ -112,7 +118,7 @@ fn first_half(mut rec: Record, kind: u8, byte: u8) -> (u8, u8, Record) {
 /// "The second completes it, and a read returns the low half in bits 7 to 4."
 /// "If the second differs in kind, the first one's kind decides, the second's
 /// upper four bits (zero for a read) serve as the low half, and the answer is 8".
-fn second_half(mut rec: Record, mem: &mut [u8], kind: u8, byte: u8) -> (u8, u8, Record) {
+fn second_half(mut rec: Record, mem: &mut [u8], kind: u8, byte: u8) -> (Answer, u8, Record) {
     // A read's byte is 00h, so its upper four bits are zero.
     let low = byte >> 4;
     let half = rec.half;
@@ -145,7 +151,7 @@ fn second_half(mut rec: Record, mem: &mut [u8], kind: u8, byte: u8) -> (u8, u8, 
 }
 
 /// "Instructions, by highest set bit (document 002)".
-fn perform_instruction(rec: &mut Record, mem: &mut [u8], byte: u8) -> u8 {
+fn perform_instruction(rec: &mut Record, mem: &mut [u8], byte: u8) -> Answer {
     match byte {
         // "00h: nothing." Reading 7: it still takes 40.
         0x00 => {}
@@ -239,7 +245,7 @@ fn perform_data_write(rec: &mut Record, mem: &mut [u8], byte: u8) {
 /// "Data read: returns the register, moves the counter, loads the register from
 /// the new cell, fresh; never shifts. A read of a stale register is answered 7 and
 /// does all this too." The caller has taken the register's byte.
-fn perform_data_read(rec: &mut Record, mem: &[u8]) -> u8 {
+fn perform_data_read(rec: &mut Record, mem: &[u8]) -> Answer {
     let answer = if rec.fresh { DONE } else { STALE };
     rec.counter = step_counter(rec.counter, rec.id);
     load_register(rec, mem);

@@ -1,7 +1,7 @@
 //! Wrong readings of document 01's chapter "The dots".
 
 use crate::calls::Painter;
-use crate::model::{self, Record, Size, FONT};
+use crate::model::{self, Answer, Record, Size, FONT};
 
 /// With N=0 a panel of two lines is drawn as with N=1.
 fn second_line_drawn(
@@ -11,7 +11,7 @@ fn second_line_drawn(
     lit: bool,
     out: &mut [u8],
     font: &[u8; FONT],
-) -> u8 {
+) -> Answer {
     let two_lines = Record {
         n: record.n || size.lines == 2,
         ..*record
@@ -27,7 +27,7 @@ fn always_lit(
     _lit: bool,
     out: &mut [u8],
     font: &[u8; FONT],
-) -> u8 {
+) -> Answer {
     model::picture(record, memory, size, true, out, font)
 }
 
@@ -39,7 +39,7 @@ fn picture_runs_over(
     lit: bool,
     out: &mut [u8],
     font: &[u8; FONT],
-) -> u8 {
+) -> Answer {
     let answer = model::picture(record, memory, size, lit, out, font);
     let wanted = model::picture_bytes(record, size);
     if let (model::DONE, Some(past)) = (answer, out.get_mut(wanted)) {

@@ -1,10 +1,10 @@
 //! Wrong readings of document 01's chapter "Session lines": readers and writers of lines.
 
 use crate::calls::Writer;
-use crate::model::{self, Line, Reader};
+use crate::model::{self, Answer, Line, Reader};
 
 /// A reader that takes a carriage return before the newline.
-fn reads_carriage_return(text: &[u8]) -> (u8, Line) {
+fn reads_carriage_return(text: &[u8]) -> (Answer, Line) {
     let (answer, line) = model::read_line(text);
     if answer == model::DONE {
         return (answer, line);
@@ -22,7 +22,7 @@ fn reads_carriage_return(text: &[u8]) -> (u8, Line) {
 }
 
 /// A reader that wraps a wait above the limit.
-fn reads_great_waits(text: &[u8]) -> (u8, Line) {
+fn reads_great_waits(text: &[u8]) -> (Answer, Line) {
     let (answer, line) = model::read_line(text);
     let newline = text.iter().position(|&byte| byte == b'\n');
     if let (model::BAD_LINE, Some(end @ 16)) = (answer, newline.map(|at| at + 1)) {
@@ -42,7 +42,7 @@ fn reads_great_waits(text: &[u8]) -> (u8, Line) {
 }
 
 /// A reader that takes the end of the text for a newline.
-fn reads_no_newline(text: &[u8]) -> (u8, Line) {
+fn reads_no_newline(text: &[u8]) -> (Answer, Line) {
     if text.contains(&b'\n') {
         return model::read_line(text);
     }
@@ -54,7 +54,7 @@ fn reads_no_newline(text: &[u8]) -> (u8, Line) {
 }
 
 /// A reader that takes lower-case hex digits.
-fn reads_lower_case(text: &[u8]) -> (u8, Line) {
+fn reads_lower_case(text: &[u8]) -> (Answer, Line) {
     let mut upper = text.to_vec();
     for digit in upper.iter_mut().take(4).skip(2) {
         digit.make_ascii_uppercase();
@@ -63,7 +63,7 @@ fn reads_lower_case(text: &[u8]) -> (u8, Line) {
 }
 
 /// The tenth digit of a wait is lost.
-fn digit_lost(kind: u8, byte: u8, wait: u32, out: &mut [u8]) -> (u8, usize) {
+fn digit_lost(kind: u8, byte: u8, wait: u32, out: &mut [u8]) -> (Answer, usize) {
     let shorter = if wait >= 1_000_000_000 {
         wait / 10
     } else {
@@ -73,7 +73,7 @@ fn digit_lost(kind: u8, byte: u8, wait: u32, out: &mut [u8]) -> (u8, usize) {
 }
 
 /// What is left of the sixteen bytes of a line is filled with zeros.
-fn line_runs_over(kind: u8, byte: u8, wait: u32, out: &mut [u8]) -> (u8, usize) {
+fn line_runs_over(kind: u8, byte: u8, wait: u32, out: &mut [u8]) -> (Answer, usize) {
     let (answer, length) = model::write_line(kind, byte, wait, out);
     if answer == model::DONE {
         out[length..model::LINE_BYTES].fill(0);

@@ -1,10 +1,10 @@
 //! Wrong readings of document 01's chapter "The plan".
 
 use crate::calls::Planner;
-use crate::model::{self, Wish, TRANSFER_BYTES};
+use crate::model::{self, Answer, Wish, TRANSFER_BYTES};
 
 /// The second wait of a plan is one less.
-fn second_wait_less(wish: &Wish, marks: &[u8], values: &[u8], out: &mut [u8]) -> (u8, usize) {
+fn second_wait_less(wish: &Wish, marks: &[u8], values: &[u8], out: &mut [u8]) -> (Answer, usize) {
     let (answer, count) = model::plan(wish, marks, values, out);
     if answer == model::DONE {
         out[TRANSFER_BYTES + 2] -= 1;
@@ -13,7 +13,7 @@ fn second_wait_less(wish: &Wish, marks: &[u8], values: &[u8], out: &mut [u8]) ->
 }
 
 /// The screen is cleared where it should be homed, "which empties the spare cells".
-pub fn plan_clears(wish: &Wish, marks: &[u8], values: &[u8], out: &mut [u8]) -> (u8, usize) {
+pub fn plan_clears(wish: &Wish, marks: &[u8], values: &[u8], out: &mut [u8]) -> (Answer, usize) {
     let (answer, count) = model::plan(wish, marks, values, out);
     if answer == model::DONE {
         // The second half of Home is the twelfth record.
@@ -23,7 +23,12 @@ pub fn plan_clears(wish: &Wish, marks: &[u8], values: &[u8], out: &mut [u8]) -> 
 }
 
 /// "one that writes only the first marked cell".
-pub fn first_mark_alone(wish: &Wish, marks: &[u8], values: &[u8], out: &mut [u8]) -> (u8, usize) {
+pub fn first_mark_alone(
+    wish: &Wish,
+    marks: &[u8],
+    values: &[u8],
+    out: &mut [u8],
+) -> (Answer, usize) {
     let mut first = marks.to_vec();
     if let Some(at) = marks.iter().position(|&mark| mark == 1) {
         for mark in &mut first[at + 1..] {
@@ -34,7 +39,7 @@ pub fn first_mark_alone(wish: &Wish, marks: &[u8], values: &[u8], out: &mut [u8]
 }
 
 /// A buffer that is just long enough for its plan is taken.
-fn short_plan_taken(wish: &Wish, marks: &[u8], values: &[u8], out: &mut [u8]) -> (u8, usize) {
+fn short_plan_taken(wish: &Wish, marks: &[u8], values: &[u8], out: &mut [u8]) -> (Answer, usize) {
     let mut room = vec![0; model::PLAN_BYTES];
     let (answer, count) = model::plan(wish, marks, values, &mut room);
     let length = count * TRANSFER_BYTES;

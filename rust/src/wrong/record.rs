@@ -3,7 +3,7 @@
 
 use crate::bytes::{record_of, RECORD_BYTES};
 use crate::calls::{RecordReader, Resetter};
-use crate::model::{self, Record, DISPLAY_CELLS};
+use crate::model::{self, Answer, Record, DISPLAY_CELLS};
 
 /// Byte 23 of a record, which must be zero, is not looked at.
 fn last_byte_unseen(bytes: &[u8]) -> Option<Record> {
@@ -15,7 +15,7 @@ fn last_byte_unseen(bytes: &[u8]) -> Option<Record> {
 }
 
 /// Reset clears the pattern cells too.
-fn reset_clears_patterns(record: Record, memory: &mut [u8]) -> (u8, Record) {
+fn reset_clears_patterns(record: Record, memory: &mut [u8]) -> (Answer, Record) {
     let (answer, new) = model::reset(record, memory);
     if answer == model::DONE {
         memory[usize::from(DISPLAY_CELLS)..].fill(0x00);
@@ -24,7 +24,7 @@ fn reset_clears_patterns(record: Record, memory: &mut [u8]) -> (u8, Record) {
 }
 
 /// Reset leaves the display on.
-fn reset_leaves_on(record: Record, memory: &mut [u8]) -> (u8, Record) {
+fn reset_leaves_on(record: Record, memory: &mut [u8]) -> (Answer, Record) {
     let (answer, new) = model::reset(record, memory);
     (answer, Record { d: true, ..new })
 }

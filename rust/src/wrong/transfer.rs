@@ -1,6 +1,6 @@
 //! Wrong readings of document 01's chapter "One transfer".
 
-use crate::model::{self, Counter, Half, Record, Step};
+use crate::model::{self, Answer, Counter, Half, Record, Step};
 
 /// A transfer that the model has made: how it was sent, and what it came to.
 struct Made {
@@ -8,7 +8,7 @@ struct Made {
     kind: u8,
     byte: u8,
     wait: u32,
-    answer: u8,
+    answer: Answer,
     read: u8,
     new: Record,
 }
@@ -161,7 +161,7 @@ fn busy_one_off(
     kind: u8,
     byte: u8,
     wait: u32,
-) -> (u8, u8, Record) {
+) -> (Answer, u8, Record) {
     if before.busy > 0 && before.busy == wait {
         return model::transfer(before, memory, kind, byte, wait - 1);
     }

@@ -17,7 +17,7 @@ impl Bench {
     }
 
     /// One transfer; answer and byte.
-    pub fn send(&mut self, kind: u8, byte: u8, wait: u32) -> (u8, u8) {
+    pub fn send(&mut self, kind: u8, byte: u8, wait: u32) -> (Answer, u8) {
         let (answer, byte, rec) = transfer(self.rec, &mut self.mem, kind, byte, wait);
         self.rec = rec;
         assert!(is_sound(&rec));
@@ -25,11 +25,11 @@ impl Bench {
     }
 
     /// One transfer after a wait that ends every busy time.
-    pub fn instruction(&mut self, byte: u8) -> u8 {
+    pub fn instruction(&mut self, byte: u8) -> Answer {
         self.send(INSTRUCTION_WRITE, byte, 10_000).0
     }
 
-    pub fn data(&mut self, byte: u8) -> u8 {
+    pub fn data(&mut self, byte: u8) -> Answer {
         self.send(DATA_WRITE, byte, 10_000).0
     }
 
