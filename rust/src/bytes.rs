@@ -72,7 +72,7 @@ fn half_of(kind: u8, value: u8) -> Option<Half> {
     }
 }
 
-pub fn bytes_of(record: &Record) -> [u8; RECORD_BYTES] {
+pub fn record_bytes(record: &Record) -> [u8; RECORD_BYTES] {
     let (counter_memory, cell) = match record.counter {
         Counter::Display(cell) => (0, cell),
         Counter::Pattern(cell) => (1, cell),
@@ -130,4 +130,12 @@ pub fn wish_of(bytes: &[u8]) -> Option<Wish> {
         shift: bytes[7],
         cursor: bytes[8],
     })
+}
+
+pub fn wish_bytes(wish: &Wish) -> [u8; WISH_BYTES] {
+    let mut bytes = [0; WISH_BYTES];
+    let bits = [wish.n, wish.f, wish.d, wish.c, wish.b, wish.id, wish.s];
+    bytes[..7].copy_from_slice(&bits.map(u8::from));
+    (bytes[7], bytes[8]) = (wish.shift, wish.cursor);
+    bytes
 }

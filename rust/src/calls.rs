@@ -2,7 +2,7 @@
 //!
 //! Written from the header, document 01 and `model` alone.
 
-use crate::bytes::{bytes_of, record_of, wish_of, RECORD_BYTES};
+use crate::bytes::{record_bytes, record_of, wish_of, RECORD_BYTES};
 use crate::font::SHAPES;
 use crate::model::{self, Answer, Reader, Record, Size, Step, Wish, FONT, TRANSFER_BYTES};
 
@@ -76,7 +76,7 @@ impl Calls for Model {
         }
         let (answer, new) = (self.reset)(model::record_after_reset(), memory);
         if answer == model::DONE {
-            record.copy_from_slice(&bytes_of(&new));
+            record.copy_from_slice(&record_bytes(&new));
         }
         returned(answer, 0)
     }
@@ -87,7 +87,7 @@ impl Calls for Model {
             return returned(model::UNSOUND, 0);
         };
         let (answer, byte, new) = (self.transfer)(found, memory, kind, byte, wait);
-        record.copy_from_slice(&bytes_of(&new));
+        record.copy_from_slice(&record_bytes(&new));
         returned(answer, byte.into())
     }
 

@@ -8,7 +8,7 @@
 
 use std::fmt::{self, Display, Formatter};
 
-use crate::bytes::{bytes_of, wish_of};
+use crate::bytes::{record_bytes, wish_of};
 use crate::calls::{answer_of, value_of};
 use crate::case::{shown, Case, Function, Outcome};
 use crate::model::{self, Counter, Half, Record, Transfer, Wish};
@@ -57,7 +57,7 @@ impl Trial {
         let length = value_of(planned.returned) * TRANSFER_BYTES;
         let plan = model::transfers_of(&planned.buffers[3][..length]);
         let mut panel = Panel {
-            record: bytes_of(&self.start).to_vec(),
+            record: record_bytes(&self.start).to_vec(),
             memory: self.memory.clone(),
         };
         for &cut in &self.cuts {
@@ -125,7 +125,7 @@ impl Trial {
             }
         }
         let wish = wish_of(&self.wish).ok_or("the planner took what is no wish")?;
-        let due = bytes_of(&wished_record(&wish, &panel.memory));
+        let due = record_bytes(&wished_record(&wish, &panel.memory));
         if panel.record != due {
             let (found, due) = (shown("record", &panel.record), shown("record", &due));
             return Err(format!("the record is not as wished:\n  {found}\n  {due}"));
@@ -157,7 +157,11 @@ pub fn wished_record(wish: &Wish, memory: &[u8]) -> Record {
 
 impl Display for Trial {
     fn fmt(&self, to: &mut Formatter) -> fmt::Result {
-        writeln!(to, "  start {}", shown("record", &bytes_of(&self.start)))?;
+        writeln!(
+            to,
+            "  start {}",
+            shown("record", &record_bytes(&self.start))
+        )?;
         writeln!(to, "  start {}", shown("memory", &self.memory))?;
         writeln!(to, "  {}", shown("wish", &self.wish))?;
         writeln!(to, "  {}", shown("marks", &self.marks))?;

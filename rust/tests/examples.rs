@@ -1,9 +1,9 @@
 //! The example `accounts_kept` is `accounts_before` and then the library's plan, written as lines.
 
-use yaropesk_model::bytes::WISH_BYTES;
+use yaropesk_model::bytes::wish_bytes;
 use yaropesk_model::calls::{answer_of, value_of, Calls};
 use yaropesk_model::library::Library;
-use yaropesk_model::model::{transfers_of, Transfer};
+use yaropesk_model::model::{transfers_of, Transfer, Wish};
 use yaropesk_model::model::{DONE, LINE_BYTES, MEMORY, PLAN_BYTES, TRANSFER_BYTES};
 
 /// The lines of a plan.
@@ -20,11 +20,13 @@ fn lines_of(plan: &[Transfer]) -> Vec<u8> {
 
 #[test]
 fn the_start_that_keeps_the_accounts_is_planned() {
-    // N=D=I/D=1 and the cursor on cell 0; the cells on the glass of 16 x 2 are named.
-    let mut wish = [0; WISH_BYTES];
-    for bit in [0, 2, 5] {
-        wish[bit] = 1;
-    }
+    let wish = wish_bytes(&Wish {
+        n: true,
+        d: true,
+        id: true,
+        ..Wish::default()
+    });
+    // The cells on the glass of 16 x 2 are named.
     let mut marks = [0; MEMORY];
     let mut values = [b' '; MEMORY];
     marks[..16].fill(1);

@@ -16,10 +16,10 @@ use std::path::{Path, PathBuf};
 use std::process::{exit, Command};
 use std::time::{Duration, Instant};
 
-use yaropesk_model::bytes::{bytes_of, RECORD_BYTES};
+use yaropesk_model::bytes::{record_bytes, wish_bytes, RECORD_BYTES};
 use yaropesk_model::calls::{Calls, MODEL};
 use yaropesk_model::library::Library;
-use yaropesk_model::model::{self, Half, Record, Size, Transfer};
+use yaropesk_model::model::{self, Half, Record, Size, Transfer, Wish};
 use yaropesk_model::model::{DATA_READ, DATA_WRITE, INSTRUCTION_WRITE, STATUS_READ};
 use yaropesk_model::model::{LINE_BYTES, MEMORY, PLAN_BYTES, SESSION_BYTES, TRANSFER_BYTES};
 use yaropesk_model::random::{sound_record, whole_memory, Chance};
@@ -114,7 +114,7 @@ fn start(width: u8) -> Record {
 /// Sends the transfers, again and again, through the calls over bytes.
 #[inline(always)]
 fn send(calls: &impl Calls, start: Record, transfers: &[Transfer]) -> u64 {
-    let mut record = bytes_of(&start);
+    let mut record = record_bytes(&start);
     let mut memory = [0x20; MEMORY];
     let mut sum = 0;
     for _ in 0..PASSES {
@@ -171,7 +171,7 @@ fn panels() -> Vec<([u8; RECORD_BYTES], Vec<u8>)> {
             half: Half::None,
             ..sound_record(&mut chance)
         };
-        (bytes_of(&record), whole_memory(&mut chance))
+        (record_bytes(&record), whole_memory(&mut chance))
     };
     (0..PANELS).map(|_| panel()).collect()
 }
@@ -217,8 +217,13 @@ fn plan(calls: &impl Calls, wish: &[u8], marks: &[u8]) -> u64 {
 }
 
 fn measure_plans() {
-    // N, D and I/D; the cursor on cell 5.
-    let wish = [1, 0, 1, 0, 0, 1, 0, 0, 5, 0, 0, 0, 0, 0, 0, 0];
+    let wish = wish_bytes(&Wish {
+        n: true,
+        d: true,
+        id: true,
+        cursor: 5,
+        ..Wish::default()
+    });
     // Two lines of sixteen; then every cell.
     let mut lines = [0; MEMORY];
     lines[..16].fill(1);

@@ -30,8 +30,9 @@ pub fn little_endian(bytes: &[u8]) -> u32 {
 }
 
 /// "A wish: N, F, D, C, B, I/D, S; shift (below L); cursor display cell 0 to 79";
-/// the marks and values come beside it.
-#[derive(Clone, Copy, Debug, PartialEq, Eq)]
+/// the marks and values come beside it. The default has every bit 0, no shift and the
+/// cursor on cell 0.
+#[derive(Clone, Copy, Debug, Default, PartialEq, Eq)]
 pub struct Wish {
     pub n: bool,
     pub f: bool,

@@ -4,7 +4,7 @@ use super::lines;
 use super::records::{memory, record, sound_record, whole_memory};
 use super::wishes::{marks, wish};
 use super::Chance;
-use crate::bytes::{bytes_of, record_of, RECORD_BYTES};
+use crate::bytes::{record_bytes, record_of, RECORD_BYTES};
 use crate::case::{Case, Function};
 use crate::model::{picture_bytes, record_after_reset, Record, Size};
 use crate::model::{DATA_READ, DATA_WRITE, INSTRUCTION_WRITE, STATUS_READ};
@@ -200,7 +200,7 @@ pub fn kind_and_byte(chance: &mut Chance, kind: u8, byte: u8) -> [Case; 2] {
     let numbers = [kind.into(), byte.into(), lines::wait(chance)];
     let transfer = Case {
         function: Function::Transfer,
-        buffers: vec![bytes_of(&record).to_vec(), whole_memory(chance)],
+        buffers: vec![record_bytes(&record).to_vec(), whole_memory(chance)],
         numbers,
     };
     let line = Case {

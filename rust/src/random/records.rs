@@ -1,8 +1,9 @@
 //! Random records and memories, sound and damaged.
 
 use super::Chance;
-use crate::bytes::{bytes_of, BUSY_AT, RECORD_BYTES, RECORD_ZEROS};
-use crate::model::{Counter, Half, Record, DISPLAY_CELLS, MEMORY, PATTERN_CELLS};
+use crate::bytes::{record_bytes, BUSY_AT, RECORD_BYTES, RECORD_ZEROS};
+use crate::model::{record_after_reset, Counter, Half, Record};
+use crate::model::{DISPLAY_CELLS, MEMORY, PATTERN_CELLS};
 use crate::model::{LONGEST_BUSY, LONG_TIME, SHORT_TIME};
 
 /// A number below the bound, its edges more often than the rest.
@@ -11,7 +12,7 @@ pub(super) fn edge_or_any(chance: &mut Chance, bound: u8) -> u8 {
     chance.pick(&[0, 1, bound / 2 - 1, bound / 2, bound - 1, any, any, any])
 }
 
-/// Any sound record, built field by field.
+/// Any sound record.
 pub fn sound_record(chance: &mut Chance) -> Record {
     let width = chance.pick(&[4, 4, 4, 8, 8]);
     let half = if width == 4 {
@@ -21,8 +22,13 @@ pub fn sound_record(chance: &mut Chance) -> Record {
     };
     let may_be_busy = matches!(half, Half::None | Half::StatusRead(_));
     let busy = if may_be_busy { any_busy(chance) } else { 0 };
-    Record {
+    let waiting = Record {
         width,
+        half,
+        busy,
+        ..record_after_reset()
+    };
+    Record {
         n: chance.percent(60),
         f: chance.percent(50),
         d: chance.percent(80),
@@ -34,8 +40,7 @@ pub fn sound_record(chance: &mut Chance) -> Record {
         counter: any_counter(chance),
         register: chance.byte(),
         fresh: chance.percent(50),
-        half,
-        busy,
+        ..waiting
     }
 }
 
@@ -82,7 +87,7 @@ fn any_busy(chance: &mut Chance) -> u32 {
 
 /// A record's bytes with one thing wrong, or nearly wrong.
 fn damaged_record(chance: &mut Chance) -> Vec<u8> {
-    let mut bytes = bytes_of(&sound_record(chance)).to_vec();
+    let mut bytes = record_bytes(&sound_record(chance)).to_vec();
     let any = chance.byte();
     match chance.below(12) {
         0 => bytes[0] = any,
@@ -108,7 +113,7 @@ pub(super) fn record(chance: &mut Chance) -> Vec<u8> {
     if chance.percent(10) {
         damaged_record(chance)
     } else {
-        bytes_of(&sound_record(chance)).to_vec()
+        record_bytes(&sound_record(chance)).to_vec()
     }
 }
 

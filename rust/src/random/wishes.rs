@@ -1,21 +1,28 @@
 //! Random wishes and marks, sound and damaged.
 
+use std::array;
+
 use super::records::edge_or_any;
 use super::Chance;
-use crate::bytes::{WISH_BYTES, WISH_ZEROS};
-use crate::model::{line_length, DISPLAY_CELLS, MEMORY};
+use crate::bytes::{wish_bytes, WISH_BYTES, WISH_ZEROS};
+use crate::model::{line_length, Wish, DISPLAY_CELLS, MEMORY};
 
 /// The bytes of a wish that the planner accepts.
 pub fn sound_wish(chance: &mut Chance) -> Vec<u8> {
-    let mut wish: Vec<u8> = (0..7).map(|_| u8::from(chance.percent(50))).collect();
-    if wish[0] == 1 {
-        wish[1] = 0;
-    }
-    let shift = edge_or_any(chance, line_length(wish[0] == 1));
-    wish.push(chance.pick(&[0, 0, shift]));
-    wish.push(edge_or_any(chance, DISPLAY_CELLS));
-    wish.resize(WISH_BYTES, 0);
-    wish
+    let [n, f, d, c, b, id, s] = array::from_fn(|_| chance.percent(50));
+    let shift = edge_or_any(chance, line_length(n));
+    let wish = Wish {
+        n,
+        f: f && !n,
+        d,
+        c,
+        b,
+        id,
+        s,
+        shift: chance.pick(&[0, 0, shift]),
+        cursor: edge_or_any(chance, DISPLAY_CELLS),
+    };
+    wish_bytes(&wish).to_vec()
 }
 
 /// One byte of a wish wrong, or nearly so, or its length.

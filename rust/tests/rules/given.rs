@@ -112,27 +112,12 @@ pub fn rows(code: u8) -> Vec<u8> {
     shape(&font(), code).to_vec()
 }
 
-/// All off, nothing shifted, the cursor on cell 0.
-pub fn wish() -> Wish {
-    Wish {
-        n: false,
-        f: false,
-        d: false,
-        c: false,
-        b: false,
-        id: false,
-        s: false,
-        shift: 0,
-        cursor: 0,
-    }
-}
-
 /// "wish N=D=I/D=1, all else 0".
 pub fn plain_wish() -> Wish {
     Wish {
         n: true,
         d: true,
         id: true,
-        ..wish()
+        ..Wish::default()
     }
 }

@@ -3,29 +3,24 @@
 use yaropesk_model::demand::wished_record;
 use yaropesk_model::model::*;
 
-use crate::given::{plain_wish, wish, Bench};
+use crate::given::{plain_wish, Bench};
 
 /// What is refused of the wish alone.
 fn not_wishes() -> [Wish; 4] {
+    let wish = Wish::default();
     [
         Wish {
             n: true,
             f: true,
-            ..wish()
+            ..wish
         },
-        Wish {
-            shift: 80,
-            ..wish()
-        },
+        Wish { shift: 80, ..wish },
         Wish {
             n: true,
             shift: 40,
-            ..wish()
+            ..wish
         },
-        Wish {
-            cursor: 80,
-            ..wish()
-        },
+        Wish { cursor: 80, ..wish },
     ]
 }
 
@@ -51,7 +46,10 @@ fn plan_refuses_what_is_not_a_wish_before_a_short_output() {
         for cell in [0, 79, 80, 143] {
             let mut two = marks;
             two[cell] = 2;
-            assert_eq!(plan(&wish(), &two, &marks, &mut out), (NOT_A_WISH, 0));
+            assert_eq!(
+                plan(&Wish::default(), &two, &marks, &mut out),
+                (NOT_A_WISH, 0)
+            );
         }
         assert_eq!(out, vec![0xEE; length]);
     }
@@ -61,7 +59,10 @@ fn plan_refuses_what_is_not_a_wish_before_a_short_output() {
 fn plan_refuses_a_short_output() {
     let marks = [0; MEMORY];
     let mut short = [0xEE; PLAN_BYTES - 1];
-    assert_eq!(plan(&wish(), &marks, &marks, &mut short), (TOO_SHORT, 0));
+    assert_eq!(
+        plan(&Wish::default(), &marks, &marks, &mut short),
+        (TOO_SHORT, 0)
+    );
     assert_eq!(short, [0xEE; PLAN_BYTES - 1]);
 }
 
