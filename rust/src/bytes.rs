@@ -59,6 +59,13 @@ fn counter_of(memory: u8, cell: u8) -> Option<Counter> {
     }
 }
 
+fn counter_bytes(counter: Counter) -> (u8, u8) {
+    match counter {
+        Counter::Display(cell) => (0, cell),
+        Counter::Pattern(cell) => (1, cell),
+    }
+}
+
 /// "half (0 none, 1 instruction write, 2 data write, 3 status read, 4 data read)",
 /// "half's value (0 where none)".
 fn half_of(kind: u8, value: u8) -> Option<Half> {
@@ -72,18 +79,19 @@ fn half_of(kind: u8, value: u8) -> Option<Half> {
     }
 }
 
-pub fn record_bytes(record: &Record) -> [u8; RECORD_BYTES] {
-    let (counter_memory, cell) = match record.counter {
-        Counter::Display(cell) => (0, cell),
-        Counter::Pattern(cell) => (1, cell),
-    };
-    let (half, value) = match record.half {
+fn half_bytes(half: Half) -> (u8, u8) {
+    match half {
         Half::None => (0, 0),
         Half::InstructionWrite(high) => (1, high),
         Half::DataWrite(high) => (2, high),
         Half::StatusRead(read) => (3, read),
         Half::DataRead(read) => (4, read),
-    };
+    }
+}
+
+pub fn record_bytes(record: &Record) -> [u8; RECORD_BYTES] {
+    let (memory, cell) = counter_bytes(record.counter);
+    let (half, value) = half_bytes(record.half);
     let busy = record.busy.to_le_bytes();
     [
         record.width,
@@ -95,7 +103,7 @@ pub fn record_bytes(record: &Record) -> [u8; RECORD_BYTES] {
         record.id.into(),
         record.s.into(),
         record.shift,
-        counter_memory,
+        memory,
         cell,
         record.register,
         record.fresh.into(),
