@@ -7,6 +7,7 @@
 use crate::calls::{Model, MODEL};
 use crate::font::SHAPES;
 use crate::model::{self, Counter, Half, Played, Record, Size, DISPLAY_CELLS};
+use crate::programs::Written;
 
 #[derive(Clone, Copy, Debug, PartialEq, Eq)]
 pub enum Form {
@@ -30,13 +31,6 @@ impl Form {
 
 /// The size that need not be said.
 pub const USUAL: Size = Size::new(16, 2);
-
-/// What a program writes to its standard output and to its standard error.
-#[derive(Clone, Debug, Default, PartialEq, Eq)]
-pub struct Written {
-    pub output: Vec<u8>,
-    pub errors: Vec<u8>,
-}
 
 /// One place of the drawn glass: a dot, or the gap between two characters or lines.
 #[derive(Clone, Copy, Debug, PartialEq, Eq)]

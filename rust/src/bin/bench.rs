@@ -22,10 +22,9 @@ use yaropesk_model::library::Library;
 use yaropesk_model::model::{self, Half, Record, Size, Transfer, Wish};
 use yaropesk_model::model::{DATA_READ, DATA_WRITE, INSTRUCTION_WRITE, STATUS_READ};
 use yaropesk_model::model::{LINE_BYTES, MEMORY, PLAN_BYTES, SESSION_BYTES, TRANSFER_BYTES};
-use yaropesk_model::random::{sound_record, whole_memory, Chance};
+use yaropesk_model::random::{sound_record, whole_memory, Chance, SEED};
 
 const ROUNDS: usize = 60;
-const SEED: u64 = 44_780;
 
 // ---------------------------------------------------------------------------
 // Time

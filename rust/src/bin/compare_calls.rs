@@ -17,11 +17,10 @@ use yaropesk_model::demand::Trial;
 use yaropesk_model::library::Library;
 use yaropesk_model::model::Answer;
 use yaropesk_model::options::Options;
-use yaropesk_model::random::{self, Chance};
+use yaropesk_model::random::{self, Chance, SEED};
 use yaropesk_model::tally::Tally;
 use yaropesk_model::wrong;
 
-const DEFAULT_SEED: u64 = 44_780;
 const DEFAULT_CALLS: u64 = 2_000_000;
 
 const SEQUENCES: u64 = 200;
@@ -152,7 +151,10 @@ fn compare(model: Model, seed: u64, calls: u64) -> bool {
     for function in FUNCTIONS {
         println!("  {}", comparison.counted(function));
     }
-    println!("  {SEQUENCES} sequences of {SEQUENCE_TRANSFERS} transfers from reset, {TRIALS} plans with random cuts");
+    println!(
+        "  {SEQUENCES} sequences of {SEQUENCE_TRANSFERS} transfers from reset, \
+         {TRIALS} plans with random cuts"
+    );
     false
 }
 
@@ -161,7 +163,7 @@ fn main() {
     if options.plain.len() > 2 {
         options.refuse();
     }
-    let seed = options.number(0, DEFAULT_SEED);
+    let seed = options.number(0, SEED);
     let calls = options.number(1, DEFAULT_CALLS);
     options.compare(&[], |model| compare(model, seed, calls))
 }

@@ -12,14 +12,13 @@
 
 use std::fmt::{self, Display, Formatter};
 
-use yaropesk_model::drawing::{Drawing, Form, Written, DRAWING, FORMS, USUAL};
+use yaropesk_model::drawing::{Drawing, Form, DRAWING, FORMS, USUAL};
 use yaropesk_model::model::{self, Half, Size, SESSION_BYTES};
 use yaropesk_model::options::Options;
-use yaropesk_model::programs::{run, show, shrink, Ran};
-use yaropesk_model::random::{random_panel_text, Chance};
+use yaropesk_model::programs::{run, show, shrink, Ran, Written};
+use yaropesk_model::random::{random_panel_text, Chance, SEED};
 use yaropesk_model::wrong::drawings;
 
-const DEFAULT_SEED: u64 = 44_780;
 const DEFAULT_RUNS: u64 = 2_000;
 
 /// The words' generators lie past those of the texts.
@@ -86,11 +85,8 @@ impl Pair<'_> {
     }
 
     fn differs(&self, wanted: &Wanted, text: &[u8]) -> bool {
-        let (ran, written) = (
-            self.program_writes(wanted, text),
-            self.drawing_writes(wanted, text),
-        );
-        ran.ended.is_some() || ran.output != written.output || ran.errors != written.errors
+        let due = self.drawing_writes(wanted, text);
+        !self.program_writes(wanted, text).is(&due)
     }
 
     /// The smallest glass on which they still differ.
@@ -108,18 +104,18 @@ impl Pair<'_> {
         let short = shrink(text, |text| self.differs(wanted, text));
         let smallest = self.smallest(wanted, &short);
         let ran = self.program_writes(&smallest, &short);
-        let written = self.drawing_writes(&smallest, &short);
-        let mut bytes = ran.output.iter().zip(&written.output);
+        let (written, due) = (&ran.written, self.drawing_writes(&smallest, &short));
+        let mut bytes = written.output.iter().zip(&due.output);
         let first = bytes.position(|(ours, theirs)| ours != theirs);
         println!("the words: {smallest}");
         show("shortest text", &short);
-        show("the program writes", &ran.output);
-        show("the drawing on the model is", &written.output);
+        show("the program writes", &written.output);
+        show("the drawing on the model is", &due.output);
         if let Some(at) = first {
             println!("the first {at} bytes are equal");
         }
-        if ran.errors != written.errors {
-            show("standard error should be", &written.errors);
+        if written.errors != due.errors {
+            show("standard error should be", &due.errors);
         }
         ran.show_faults();
     }
@@ -182,10 +178,8 @@ fn compare(pair: Pair, seed: u64, runs: u64) -> bool {
 fn main() {
     let usage = "compare_glass PROGRAM [SEED] [RUNS]";
     let options = Options::read(usage, DRAWING, drawings::all());
-    let (Some(program), 1..=3) = (options.plain.first(), options.plain.len()) else {
-        options.refuse();
-    };
-    let seed = options.number(1, DEFAULT_SEED);
+    let program = options.program();
+    let seed = options.number(1, SEED);
     let runs = options.number(2, DEFAULT_RUNS);
     options.compare(&[], |drawing| {
         compare(Pair { program, drawing }, seed, runs)

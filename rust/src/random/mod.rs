@@ -9,7 +9,7 @@ mod records;
 mod texts;
 mod wishes;
 
-pub use chance::Chance;
+pub use chance::{Chance, SEED};
 pub use records::{sound_record, whole_memory};
 pub use texts::{random_panel_text, random_text};
 pub use wishes::{sound_marks, sound_wish};
