@@ -5,7 +5,7 @@
 set -eu
 root=$(cd "$(dirname "$0")/.." && pwd)
 program=$root/target/bin/session
-glass=$root/target/bin/panel
+glass=$root/target/bin/glass
 library=$root/target/staticlib/libinterface.a
 cargo=$(command -v cargo || true)
 [ -n "$cargo" ] || cargo=${HOME:-}/.cargo/bin/cargo
@@ -14,7 +14,7 @@ if [ ! -x "$cargo" ]; then
     exit 0
 fi
 [ -x "$program" ] || { echo "model: $program is not built: run 'rt check session' first" >&2; exit 1; }
-[ -x "$glass" ] || { echo "model: $glass is not built: run 'rt check panel' first" >&2; exit 1; }
+[ -x "$glass" ] || { echo "model: $glass is not built: run 'rt check glass' first" >&2; exit 1; }
 [ -f "$library" ] || { echo "model: $library is not built: run 'rt staticlib interface' first" >&2; exit 1; }
 cd "$root/rust"
 "$cargo" test --release --offline --quiet
