@@ -28,6 +28,8 @@ count 'the full session has 65,536 bytes' $?
 awk 'BEGIN { print "no\tanswer\tbyte\tbusy"; for (i = 1; i < 9362; i++) print i "\t0\t80\t10000"; print "9362\t0\t80\t9900" }' > "$work/want"
 timeout 20 "$program" < "$work/full" > "$work/got"
 same '9,362 lines in 65,536 bytes'
+# A pipe is wanted here, and not the file.
+# shellcheck disable=SC2002
 cat "$work/full" | timeout 20 "$program" > "$work/got"
 same '9,362 lines through a pipe'
 
