@@ -4,3 +4,4 @@ pub mod Refusals
 pub mod Answers
 pub mod One
 pub mod Cases
+pub mod Rules
