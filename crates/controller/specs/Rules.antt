@@ -1,13 +1,13 @@
 -- The rules of one transfer said a second time: each row of document 01's list by its range of bytes, field by field, with every
 -- other field as it was (document 01, "One transfer"). A rule that is bent in code and definition alike is caught here.
 -- Assumes nothing.
-use mathlib.Core.Bool.{Bool, true, false, cond, not}
+use mathlib.Core.Bool.{Bool, true, false, cond, not, _&&_}
 use mathlib.Core.List.{List}
 use mathlib.Core.Logic.{_⊎_}
 use mathlib.Core.Path.{_≡_}
 use Prim.Native.Nat.{ℕ, _+_, _-_, _/_, _%_, _≤_, _<_}
 use lib.Dec.{ltb, eqb}
-use lib.ListN.{getD}
+use lib.ListN.{getD, length}
 use Rattle.controller.specs.declared.cells.Counter.{Counter}
 use Rattle.controller.specs.declared.cells.Counter.the-variants.{Display, Pattern}
 use Rattle.controller.specs.declared.decision.Decision.{Decision}
@@ -16,7 +16,9 @@ use Rattle.controller.specs.declared.«record».Record.{Record}
 use Rattle.controller.specs.Answers.{numberOf}
 use Rattle.controller.specs.Bus.{decided}
 use Rattle.controller.specs.Cases.{Waits}
+use Rattle.controller.specs.Cells.{placeOf}
 use Rattle.controller.specs.Decision.{performed}
+use Rattle.controller.specs.Record.{sound}
 
 -- Width, N and F as they were.
 pub record SameFunction (old new : Record) : Type 0 where
@@ -216,3 +218,63 @@ pub record InstructionRules : Type 0 where
   pub function : Instructs 0x20 0x3F SetsFunction
   pub pattern : Instructs 0x40 0x7F SetsPattern
   pub display : Instructs 0x80 0xFF SetsDisplay
+
+-- The counter is in display memory.
+abbrev pub inDisplay : Counter → Bool
+inDisplay (Display cell) = true
+inDisplay (Pattern cell) = false
+
+-- Data write: byte into the counter's cell, register holds the byte, stale; counter +1 or -1 by I/D. In display memory with S=1 the
+-- shift then moves, +1 if I/D=1, else -1.
+pub record WritesData (rec : Record) (mem : List ℕ) (byte : ℕ) (d : Decision) : Type 0 where
+  pub comes : Comes d 0 0x00 40
+  pub function : SameFunction rec (d .rec)
+  pub control : SameControl rec (d .rec)
+  pub entry : SameEntry rec (d .rec)
+  pub shift :
+      d .rec .shift ≡ cond (inDisplay (rec .counter) && rec .entry .s) (neighbour (rec .entry .id) 79 (rec .shift)) (rec .shift)
+  pub counter : d .rec .counter ≡ beside (rec .entry .id) (rec .counter)
+  pub reg : d .rec .reg ≡ byte
+  pub fresh : d .rec .fresh ≡ false
+  pub cells : Cells mem d (λ place. cond (eqb place (placeOf (rec .counter))) byte (getD mem place 0))
+
+-- Data read: returns the register, moves the counter, loads the register from the new cell, fresh; a stale one is answered 7. The
+-- shift is as it was, whatever S is.
+pub record ReadsData (rec : Record) (mem : List ℕ) (d : Decision) : Type 0 where
+  pub comes : Comes d (cond (rec .fresh) 0 7) (rec .reg) 40
+  pub function : SameFunction rec (d .rec)
+  pub control : SameControl rec (d .rec)
+  pub entry : SameEntry rec (d .rec)
+  pub shift : d .rec .shift ≡ rec .shift
+  pub counter : d .rec .counter ≡ beside (rec .entry .id) (rec .counter)
+  pub reg : d .rec .reg ≡ getD mem (placeOf (d .rec .counter)) 0
+  pub fresh : d .rec .fresh ≡ true
+  pub cells : SameCells mem d
+
+-- This is the counter's address: of a display cell by its range, of a pattern cell its own number.
+abbrev pub Addresses : Bool → Counter → ℕ → Type 0
+Addresses n (Display cell) address = Names n address cell
+Addresses n (Pattern cell) address = address ≡ cell
+
+-- Status: bit 7 busy above 0, bits 6 to 0 the counter's address. It takes no time and alters nothing; the wait has come off busy.
+pub record ReadsStatus (rec : Record) (mem : List ℕ) (wait : ℕ) (d : Decision) : Type 0 where
+  pub byte : (address : ℕ) → Addresses (rec .function .n) (rec .counter) address
+      → Comes d 0 (cond (ltb 0 (rec .busy - wait)) 0x80 0 + address) (rec .busy - wait)
+  pub function : SameFunction rec (d .rec)
+  pub control : SameControl rec (d .rec)
+  pub entry : SameEntry rec (d .rec)
+  pub place : SamePlace rec (d .rec)
+  pub cells : SameCells mem d
+
+-- A sound controller at width 8 with its memory whole.
+pub record Wide (rec : Record) (mem : List ℕ) : Type 0 where
+  pub sound : sound rec ≡ true
+  pub whole : length mem ≡ 144
+  pub wide : rec .wide ≡ true
+
+-- Data writes and data reads once busy is over, and status reads at any time.
+pub record DataRules : Type 0 where
+  pub write : (rec : Record) (mem : List ℕ) (byte wait : ℕ) → Waits rec mem true Empty wait
+      → WritesData rec mem byte (decided rec mem 1 byte wait)
+  pub read : (rec : Record) (mem : List ℕ) (wait : ℕ) → Waits rec mem true Empty wait → ReadsData rec mem (decided rec mem 3 0x00 wait)
+  pub status : (rec : Record) (mem : List ℕ) (wait : ℕ) → Wide rec mem → ReadsStatus rec mem wait (decided rec mem 2 0x00 wait)

@@ -1,6 +1,6 @@
 -- The instruction list, row by row: a byte's range says which row of the table it is, and the row's rule is read off field by field.
 -- Assumes nothing.
-use mathlib.Core.Bool.{Bool, true, false, cond, not}
+use mathlib.Core.Bool.{Bool, true, false, cond, not, _&&_, and-false}
 use mathlib.Core.List.{List, _++_}
 use mathlib.Core.Logic.{_⊎_, inl, inr}
 use mathlib.Core.Path.{_≡_, refl, sym, ap, subst, _∙_}
@@ -8,34 +8,39 @@ use Prim.Native.Nat.{ℕ, _+_, _-_, _/_, _%_, _≤_, _<_}
 use native.Mathlib.Nat.{mod-eq-of-lt}
 use native.Mathlib.Omega.{arith}
 use lib.Dec.{leb, eqb, ltb}
-use lib.ListN.{getD, length, replicate, drop, length-replicate, getD-replicate, List·getD-append}
-use lib.Seq.{getD-append-add, getD-drop}
-use borrow.Author.Tests.{le-leb, lt-leb, eq-eqb, ne-eqb, lt-ltb, le-ltb, ltb-true, ltb-false, eqb-true, eqb-false}
-use Rattle.controller.proofs.Laws.Cells.{named-within, on-display, on-pattern}
+use lib.ListN.{getD, set, length, replicate, drop, length-replicate, getD-replicate, List·getD-append}
+use lib.Seq.{getD-append-add, getD-drop, getD-set-same, getD-set-other}
+use borrow.Author.Tests.{le-leb, lt-leb, leb-true, eq-eqb, ne-eqb, lt-ltb, le-ltb, ltb-true, ltb-false, eqb-true, eqb-false}
+use Rattle.controller.proofs.Laws.Cells.{named-within, on-display, on-pattern, place-below}
+use Rattle.controller.proofs.Laws.Choice.{cond-elim, cond-map}
+use Rattle.controller.proofs.Laws.Completed.{carried-keeps}
 use Rattle.controller.proofs.Laws.Instruction.{decoded-address}
-use Rattle.controller.proofs.Laws.Record.{sound-counter, sound-shift}
+use Rattle.controller.proofs.Laws.Kept.{wide-none}
+use Rattle.controller.proofs.Laws.Record.{sound-counter, sound-half, sound-shift, waited-keeps}
+use Rattle.controller.proofs.Laws.Taken.{accepted-wide, taken}
 use Rattle.controller.proofs.Theorems.Cases.{taken-wide}
 use Rattle.controller.proofs.Theorems.Cells.{addresses-match, wraps}
-use Rattle.controller.specs.declared.answers.Answer.the-variants.{NoCell}
+use Rattle.controller.specs.declared.answers.Answer.the-variants.{Done, NoCell, StaleRead}
 use Rattle.controller.specs.declared.cells.Add.{Add}
 use Rattle.controller.specs.declared.cells.Counter.{Counter}
 use Rattle.controller.specs.declared.cells.Named.{Named}
 use Rattle.controller.specs.declared.cells.Named.the-variants.{Cell, Outside}
 use Rattle.controller.specs.declared.cells.Counter.the-variants.{Display, Pattern}
-use Rattle.controller.specs.Cells.{addOfCell, byteUnder, cellOfAdd, onCell, placeOf, stepped, wrapped}
+use Rattle.controller.specs.Cells.{addOfCell, addressOf, byteUnder, cellOfAdd, onCell, placeOf, stepped, wrapped}
 use Rattle.controller.specs.declared.decision.Decision.{Decision}
 use Rattle.controller.specs.declared.instruction.Instruction.{Instruction}
 use Rattle.controller.specs.declared.instruction.Instruction.the-variants.{Nothing, Clear, Home, SetEntry, SetControl, MoveCursor, ShiftDisplay, SetFunction, PatternAddress, DisplayAddress}
 use Rattle.controller.specs.declared.«record».Half.the-variants.{Empty}
 use Rattle.controller.specs.declared.«record».Record.{Record}
-use Rattle.controller.specs.Bus.{badTransfer, decided}
+use Rattle.controller.specs.Answers.{numberOf}
+use Rattle.controller.specs.Bus.{badTransfer, decided, mustWait}
 use Rattle.controller.specs.Cases.{Waits}
 use Rattle.controller.specs.Decision.{performed, blanked, refused}
-use Rattle.controller.specs.Execute.{addressed, changed, completed, cursorAt, executed, loaded, placed, shortTime, longTime}
+use Rattle.controller.specs.Execute.{addressed, carried, changed, completed, cursorAt, executed, loaded, movedOn, placed, readOut, shortTime, longTime, statusOf, written}
 use Rattle.controller.specs.Halves.{begun}
 use Rattle.controller.specs.Instruction.{bit, decoded}
-use Rattle.controller.specs.Record.{busyOver}
-use Rattle.controller.specs.Rules.{Instructs, DoesNothing, Homes, Clears, GoesHome, SetsEntry, SetsControl, isSet, neighbour, beside, MovedRegister, MovesCounter, ShiftsDisplay, SetsFunction, GoesTo, SetsPattern, Names, LacksCell, SetsDisplay, InstructionRules}
+use Rattle.controller.specs.Record.{busyOver, waited, withShift}
+use Rattle.controller.specs.Rules.{Instructs, DoesNothing, Homes, Clears, GoesHome, SetsEntry, SetsControl, isSet, neighbour, beside, MovedRegister, MovesCounter, ShiftsDisplay, SetsFunction, GoesTo, SetsPattern, Names, LacksCell, SetsDisplay, InstructionRules, inDisplay, WritesData, ReadsData, Addresses, ReadsStatus, Wide, DataRules, SameFunction, SameControl, SameEntry, SamePlace}
 
 -- a byte's range says which row of the table it is
 module _ (byte : ℕ) where
@@ -105,6 +110,11 @@ does-nothing rec mem byte wait w over under =
       cells = λ _ _. refl;
     })
 
+-- a choice by its value in both cases
+choose : {x a b : ℕ} (t : Bool) → (t ≡ true → x ≡ a) → (t ≡ false → x ≡ b) → x ≡ cond t a b
+choose true here there = here refl
+choose false here there = there refl
+
 -- a list whose first bytes are all this one
 front : (n byte : ℕ) (rest : List ℕ) (place : ℕ) → place < n → getD (replicate n byte ++ rest) place 0 ≡ byte
 front n byte rest place under =
@@ -124,10 +134,6 @@ blanked-cells : (mem : List ℕ) (place : ℕ) → getD (blanked mem) place 0 �
 unfolding blanked
 blanked-cells mem place =
     choose (ltb place 80) (λ under. front 80 0x20 (drop 80 mem) place (ltb-true place 80 under)) (λ over. back 80 0x20 mem place (ltb-false place 80 over))
-  where
-    choose : {x a b : ℕ} (t : Bool) → (t ≡ true → x ≡ a) → (t ≡ false → x ≡ b) → x ≡ cond t a b
-    choose true here there = here refl
-    choose false here there = there refl
 
 clears : Instructs 0x01 0x01 Clears
 unfolding executed longTime performed
@@ -376,3 +382,143 @@ instruction-rules =
       pattern = sets-pattern;
       display = sets-display;
     }
+
+-- a byte stored at a place, read at any
+stored-cells : (mem : List ℕ) (at byte place : ℕ) → at < length mem → getD (set mem at byte) place 0 ≡ cond (eqb place at) byte (getD mem place 0)
+stored-cells mem at byte place inside =
+    choose (eqb place at) (λ here. ap (λ (p : ℕ). getD (set mem at byte) p 0) (eqb-true place at here) ∙ getD-set-same mem at byte 0 inside)
+    (λ other. getD-set-other mem at place byte 0 (eqb-false place at other))
+
+-- the display follows a data write as its rule says
+follows : (rec : Record) (counter : Counter) → rec .shift < 80
+    → carried counter rec .shift ≡ cond (inDisplay counter && rec .entry .s) (neighbour (rec .entry .id) 79 (rec .shift)) (rec .shift)
+unfolding carried
+follows rec (Display cell) below =
+    cond-map (λ (r : Record). r .shift) (rec .entry .s) _ _ _ _ (λ _. neighbour-is (rec .entry .id) 79 (rec .shift) (omega arith)) (λ _. refl)
+follows rec (Pattern cell) below = refl
+
+writes-data : (rec : Record) (mem : List ℕ) (byte wait : ℕ) → Waits rec mem true Empty wait → WritesData rec mem byte (decided rec mem 1 byte wait)
+unfolding badTransfer begun completed written shortTime performed
+writes-data rec mem byte wait w =
+    subst (WritesData rec mem byte) (sym (taken-wide rec mem Empty 1 byte wait w refl))
+    (record {
+      comes = record { answer = refl; byte = refl; busy = refl; half = keeps (λ r. r .half) (λ _. refl) ∙ w .holds };
+      function = record { wide = keeps (λ r. r .wide) (λ _. refl); n = keeps (λ r. r .function .n) (λ _. refl); f = keeps (λ r. r .function .f) (λ _. refl) };
+      control = record { d = keeps (λ r. r .control .d) (λ _. refl); c = keeps (λ r. r .control .c) (λ _. refl); b = keeps (λ r. r .control .b) (λ _. refl) };
+      entry = record { id = keeps (λ r. r .entry .id) (λ _. refl); s = keeps (λ r. r .entry .s) (λ _. refl) };
+      shift = follows next (rec .counter) (sound-shift rec (w .sound));
+      counter = keeps (λ r. r .counter) (λ _. refl) ∙ beside-is (rec .entry .id) (rec .counter) (sound-counter rec (w .sound));
+      reg = refl;
+      fresh = refl;
+      cells = λ place _.
+          stored-cells mem (placeOf (rec .counter)) byte place (omega (arith, place-below (rec .counter) (sound-counter rec (w .sound)), w .whole));
+    })
+  where
+    next : Record
+    next = movedOn (busyOver rec)
+
+    keeps : {A : Type 0} (f : Record → A) → ((shift : ℕ) → f (withShift shift next) ≡ f next) → f (carried (rec .counter) next) ≡ f next
+    keeps f same = carried-keeps f (rec .counter) next same
+
+read-number : (fresh : Bool) → numberOf (cond fresh Done StaleRead) ≡ cond fresh 0 7
+read-number true = refl
+read-number false = refl
+
+reads-data : (rec : Record) (mem : List ℕ) (wait : ℕ) → Waits rec mem true Empty wait → ReadsData rec mem (decided rec mem 3 0x00 wait)
+unfolding badTransfer begun completed readOut shortTime performed byteUnder
+reads-data rec mem wait w =
+    subst (ReadsData rec mem) (sym (taken-wide rec mem Empty 3 0x00 wait w refl))
+    (record {
+      comes = record { answer = read-number (rec .fresh); byte = refl; busy = refl; half = w .holds };
+      function = record { wide = refl; n = refl; f = refl };
+      control = record { d = refl; c = refl; b = refl };
+      entry = record { id = refl; s = refl };
+      shift = refl;
+      counter = beside-is (rec .entry .id) (rec .counter) (sound-counter rec (w .sound));
+      reg = refl;
+      fresh = refl;
+      cells = λ _ _. refl;
+    })
+
+-- the counter's address, by its range
+addresses-is : (n : Bool) (counter : Counter) (address : ℕ) → Addresses n counter address → addressOf n counter ≡ address
+unfolding addressOf
+addresses-is n (Display cell) address names = names-add n address cell names .1
+addresses-is n (Pattern cell) address is = sym is
+
+-- what a wait leaves as it was
+module _ (wait : ℕ) (rec : Record) where
+  waits-function : SameFunction rec (waited wait rec)
+  waits-function =
+      record {
+        wide = waited-keeps (λ r. r .wide) wait rec refl (λ _. refl);
+        n = waited-keeps (λ r. r .function .n) wait rec refl (λ _. refl);
+        f = waited-keeps (λ r. r .function .f) wait rec refl (λ _. refl);
+      }
+
+  waits-control : SameControl rec (waited wait rec)
+  waits-control =
+      record {
+        d = waited-keeps (λ r. r .control .d) wait rec refl (λ _. refl);
+        c = waited-keeps (λ r. r .control .c) wait rec refl (λ _. refl);
+        b = waited-keeps (λ r. r .control .b) wait rec refl (λ _. refl);
+      }
+
+  waits-entry : SameEntry rec (waited wait rec)
+  waits-entry =
+      record {
+        id = waited-keeps (λ r. r .entry .id) wait rec refl (λ _. refl);
+        s = waited-keeps (λ r. r .entry .s) wait rec refl (λ _. refl);
+      }
+
+  waits-place : SamePlace rec (waited wait rec)
+  waits-place =
+      record {
+        shift = waited-keeps (λ r. r .shift) wait rec refl (λ _. refl);
+        counter = waited-keeps (λ r. r .counter) wait rec refl (λ _. refl);
+        reg = waited-keeps (λ r. r .reg) wait rec refl (λ _. refl);
+        fresh = waited-keeps (λ r. r .fresh) wait rec refl (λ _. refl);
+      }
+
+  waits-busy : waited wait rec .busy ≡ rec .busy - wait
+  unfolding waited
+  waits-busy =
+      cond-elim (λ (r : Record). r .busy ≡ rec .busy - wait) (leb (rec .busy) wait) _ _
+      (λ over. omega (arith, leb-true (rec .busy) wait over)) (λ _. refl)
+
+-- a status read is never told to wait
+status-free : (rec : Record) → mustWait 2 rec ≡ false
+unfolding mustWait
+status-free rec = simp and-false
+
+status-byte : (n : Bool) (counter : Counter) (rec : Record) (busy address : ℕ) → rec .function .n ≡ n → rec .counter ≡ counter → rec .busy ≡ busy
+    → addressOf n counter ≡ address → statusOf rec ≡ cond (ltb 0 busy) 0x80 0 + address
+unfolding statusOf
+status-byte n counter rec busy address lines at left is = rw (left, lines, at, is)
+
+reads-status : (rec : Record) (mem : List ℕ) (wait : ℕ) → Wide rec mem → ReadsStatus rec mem wait (decided rec mem 2 0x00 wait)
+unfolding badTransfer begun completed performed
+reads-status rec mem wait w =
+    subst (ReadsStatus rec mem wait)
+    (sym
+    (taken rec mem 2 0x00 wait (w .sound) (w .whole) refl (status-free (waited wait rec))
+    ∙ accepted-wide mem 2 0x00 (waited wait rec) (waits-function wait rec .wide ∙ w .wide)))
+    (record {
+      byte = λ address names.
+          record {
+            answer = refl;
+            byte =
+                status-byte (rec .function .n) (rec .counter) (waited wait rec) (rec .busy - wait) address (waits-function wait rec .n)
+                (waits-place wait rec .counter) (waits-busy wait rec) (addresses-is (rec .function .n) (rec .counter) address names);
+            busy = waits-busy wait rec;
+            half = waited-keeps (λ r. r .half) wait rec refl (λ _. refl) ∙ wide-none (rec .wide) (rec .busy) (rec .half) (w .wide) (sound-half rec (w .sound));
+          };
+      function = waits-function wait rec;
+      control = waits-control wait rec;
+      entry = waits-entry wait rec;
+      place = waits-place wait rec;
+      cells = λ _ _. refl;
+    })
+
+pub data-rules : DataRules
+data-rules = record { write = writes-data; read = reads-data; status = reads-status }
