@@ -5,3 +5,4 @@ pub mod Answers
 pub mod One
 pub mod Cases
 pub mod Rules
+pub mod Halves

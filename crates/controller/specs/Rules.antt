@@ -11,14 +11,16 @@ use lib.ListN.{getD, length}
 use Rattle.controller.specs.declared.cells.Counter.{Counter}
 use Rattle.controller.specs.declared.cells.Counter.the-variants.{Display, Pattern}
 use Rattle.controller.specs.declared.decision.Decision.{Decision}
+use Rattle.controller.specs.declared.decision.Effect.the-variants.{Keep}
 use Rattle.controller.specs.declared.«record».Half.the-variants.{Empty}
 use Rattle.controller.specs.declared.«record».Record.{Record}
 use Rattle.controller.specs.Answers.{numberOf}
-use Rattle.controller.specs.Bus.{decided}
+use Rattle.controller.specs.Bus.{badTransfer, decided}
 use Rattle.controller.specs.Cases.{Waits}
 use Rattle.controller.specs.Cells.{placeOf}
 use Rattle.controller.specs.Decision.{performed}
-use Rattle.controller.specs.Record.{sound}
+use Rattle.controller.specs.Halves.{highHalf, lowHalf}
+use Rattle.controller.specs.Record.{sound, withFunction}
 
 -- Width, N and F as they were.
 pub record SameFunction (old new : Record) : Type 0 where
@@ -114,7 +116,8 @@ pub record SetsControl (rec : Record) (mem : List ℕ) (byte : ℕ) (d : Decisio
   pub place : SamePlace rec (d .rec)
   pub cells : SameCells mem d
 
--- One cell to the right or left in a ring whose last cell this is: the last is followed by the first, the first preceded by the last.
+-- One cell to the right or left in a ring whose last cell this is: the last is followed by the first, the first preceded by the
+-- last.
 unfoldable pub neighbour : Bool → ℕ → ℕ → ℕ
 neighbour true last cell = cond (eqb cell last) 0 (cell + 1)
 neighbour false last cell = cond (eqb cell 0) last (cell - 1)
@@ -224,8 +227,8 @@ abbrev pub inDisplay : Counter → Bool
 inDisplay (Display cell) = true
 inDisplay (Pattern cell) = false
 
--- Data write: byte into the counter's cell, register holds the byte, stale; counter +1 or -1 by I/D. In display memory with S=1 the
--- shift then moves, +1 if I/D=1, else -1.
+-- Data write: byte into the counter's cell, register holds the byte, stale; counter +1 or -1 by I/D. In display memory with S=1
+-- the shift then moves, +1 if I/D=1, else -1.
 pub record WritesData (rec : Record) (mem : List ℕ) (byte : ℕ) (d : Decision) : Type 0 where
   pub comes : Comes d 0 0x00 40
   pub function : SameFunction rec (d .rec)
@@ -276,5 +279,33 @@ pub record Wide (rec : Record) (mem : List ℕ) : Type 0 where
 pub record DataRules : Type 0 where
   pub write : (rec : Record) (mem : List ℕ) (byte wait : ℕ) → Waits rec mem true Empty wait
       → WritesData rec mem byte (decided rec mem 1 byte wait)
-  pub read : (rec : Record) (mem : List ℕ) (wait : ℕ) → Waits rec mem true Empty wait → ReadsData rec mem (decided rec mem 3 0x00 wait)
+  pub read : (rec : Record) (mem : List ℕ) (wait : ℕ) → Waits rec mem true Empty wait
+      → ReadsData rec mem (decided rec mem 3 0x00 wait)
   pub status : (rec : Record) (mem : List ℕ) (wait : ℕ) → Wide rec mem → ReadsStatus rec mem wait (decided rec mem 2 0x00 wait)
+
+-- The record at this width, all else as it was.
+abbrev pub atWidth : Bool → Record → Record
+atWidth wide rec = withFunction wide (rec .function) rec
+
+-- These two come to the same, the width aside.
+pub record Alike (d e : Decision) : Type 0 where
+  pub answer : d .answer ≡ e .answer
+  pub effect : d .effect ≡ e .effect
+  pub rec : atWidth true (d .rec) ≡ atWidth true (e .rec)
+
+-- Of these, the first is a first half that alters no cell, the second leaves the controller as the third does, width aside, and
+-- together they return the third's byte, its high half first.
+pub record TwoMake (first second whole : Decision) : Type 0 where
+  pub begins : numberOf (first .answer) ≡ 5
+  pub keeps : first .effect ≡ Keep
+  pub high : first .byte ≡ highHalf (whole .byte)
+  pub low : second .byte ≡ lowHalf (whole .byte)
+  pub alike : Alike second whole
+
+-- Width 4: a transfer in two halves of its kind, the second after any wait, is the whole transfer of width 8.
+abbrev pub HalvesMakeWhole : Type 0
+HalvesMakeWhole =
+    (rec : Record) (mem : List ℕ) (kind byte wait later : ℕ) → Waits rec mem false Empty wait → badTransfer kind byte ≡ false
+    → byte < 256
+    → let first : Decision = decided rec mem kind (highHalf byte) wait in
+    TwoMake first (decided (first .rec) mem kind (lowHalf byte) later) (decided (atWidth true rec) mem kind byte wait)
