@@ -17,7 +17,7 @@ use Rattle.controller.specs.declared.«record».Record.{Record}
 use Rattle.controller.specs.Answers.{numberOf}
 use Rattle.controller.specs.Bus.{badTransfer, decided}
 use Rattle.controller.specs.Cases.{Waits}
-use Rattle.controller.specs.Cells.{placeOf}
+use Rattle.controller.specs.Cells.{addressSet, onCell, placeOf}
 use Rattle.controller.specs.Decision.{performed}
 use Rattle.controller.specs.Halves.{highHalf, lowHalf}
 use Rattle.controller.specs.Record.{sound, withFunction}
@@ -309,3 +309,29 @@ HalvesMakeWhole =
     → byte < 256
     → let first : Decision = decided rec mem kind (highHalf byte) wait in
     TwoMake first (decided (first .rec) mem kind (lowHalf byte) later) (decided (atWidth true rec) mem kind byte wait)
+
+-- A data read never shifts the display, whatever S is.
+abbrev pub ReadNeverShifts : Type 0
+ReadNeverShifts =
+    (rec : Record) (mem : List ℕ) (wait : ℕ) → Waits rec mem true Empty wait → decided rec mem 3 0x00 wait .rec .shift ≡ rec .shift
+
+-- Changing N moves nothing: a Function Set leaves the counter, the shift and every cell where they were.
+abbrev pub FunctionMovesNothing : Type 0
+FunctionMovesNothing =
+    (rec : Record) (mem : List ℕ) (byte wait : ℕ) → Waits rec mem true Empty wait → 0x20 ≤ byte → byte ≤ 0x3F
+    → let d : Decision = decided rec mem 0 byte wait in
+    (d .rec .counter ≡ rec .counter) × (d .rec .shift ≡ rec .shift) × SameCells mem d
+
+-- Clear leaves the rest: width, N, F, D, C, B, I/D, S and the pattern cells.
+abbrev pub ClearLeavesRest : Type 0
+ClearLeavesRest =
+    (rec : Record) (mem : List ℕ) (wait : ℕ) → Waits rec mem true Empty wait
+    → let d : Decision = decided rec mem 0 0x01 wait in
+    SameFunction rec (d .rec) × SameControl rec (d .rec) × SameEntry rec (d .rec)
+    × ((cell : ℕ) → cell < 64 → getD (performed (d .effect) mem) (80 + cell) 0 ≡ getD mem (80 + cell) 0)
+
+-- The instruction of `addressSet` puts the counter on its cell.
+abbrev pub AddressSetGoes : Type 0
+AddressSetGoes =
+    (rec : Record) (mem : List ℕ) (wait : ℕ) (counter : Counter) → Waits rec mem true Empty wait → onCell counter ≡ true
+    → decided rec mem 0 (addressSet (rec .function .n) counter) wait .rec .counter ≡ counter

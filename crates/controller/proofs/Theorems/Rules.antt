@@ -11,7 +11,7 @@ use lib.Dec.{leb, eqb, ltb}
 use lib.ListN.{getD, set, length, replicate, drop, length-replicate, getD-replicate, List·getD-append}
 use lib.Seq.{getD-append-add, getD-drop, getD-set-same, getD-set-other}
 use borrow.Author.Tests.{le-leb, lt-leb, leb-true, eq-eqb, ne-eqb, lt-ltb, le-ltb, ltb-true, ltb-false, eqb-true, eqb-false}
-use Rattle.controller.proofs.Laws.Cells.{named-within, on-display, on-pattern, place-below}
+use Rattle.controller.proofs.Laws.Cells.{address-below, named-within, on-display, on-pattern, place-below}
 use Rattle.controller.proofs.Laws.Choice.{cond-elim, cond-map}
 use Rattle.controller.proofs.Laws.Completed.{carried-keeps}
 use Rattle.controller.proofs.Laws.Instruction.{decoded-address}
@@ -26,7 +26,7 @@ use Rattle.controller.specs.declared.cells.Counter.{Counter}
 use Rattle.controller.specs.declared.cells.Named.{Named}
 use Rattle.controller.specs.declared.cells.Named.the-variants.{Cell, Outside}
 use Rattle.controller.specs.declared.cells.Counter.the-variants.{Display, Pattern}
-use Rattle.controller.specs.Cells.{addOfCell, addressOf, byteUnder, cellOfAdd, onCell, placeOf, stepped, wrapped}
+use Rattle.controller.specs.Cells.{addOfCell, addressOf, addressSet, byteUnder, cellOfAdd, onCell, placeOf, stepped, wrapped}
 use Rattle.controller.specs.declared.decision.Decision.{Decision}
 use Rattle.controller.specs.declared.instruction.Instruction.{Instruction}
 use Rattle.controller.specs.declared.instruction.Instruction.the-variants.{Nothing, Clear, Home, SetEntry, SetControl, MoveCursor, ShiftDisplay, SetFunction, PatternAddress, DisplayAddress}
@@ -40,7 +40,7 @@ use Rattle.controller.specs.Execute.{addressed, carried, changed, comple
 use Rattle.controller.specs.Halves.{begun}
 use Rattle.controller.specs.Instruction.{bit, decoded}
 use Rattle.controller.specs.Record.{busyOver, waited, withShift}
-use Rattle.controller.specs.Rules.{Instructs, DoesNothing, Homes, Clears, GoesHome, SetsEntry, SetsControl, isSet, neighbour, beside, MovedRegister, MovesCounter, ShiftsDisplay, SetsFunction, GoesTo, SetsPattern, Names, LacksCell, SetsDisplay, InstructionRules, inDisplay, WritesData, ReadsData, Addresses, ReadsStatus, Wide, DataRules, SameFunction, SameControl, SameEntry, SamePlace}
+use Rattle.controller.specs.Rules.{Instructs, DoesNothing, Homes, Clears, GoesHome, SetsEntry, SetsControl, isSet, neighbour, beside, MovedRegister, MovesCounter, ShiftsDisplay, SetsFunction, GoesTo, SetsPattern, Names, LacksCell, SetsDisplay, InstructionRules, inDisplay, WritesData, ReadsData, Addresses, ReadsStatus, Wide, DataRules, ReadNeverShifts, FunctionMovesNothing, ClearLeavesRest, AddressSetGoes, SameFunction, SameControl, SameEntry, SamePlace}
 
 -- a byte's range says which row of the table it is
 module _ (byte : ℕ) where
@@ -522,3 +522,41 @@ reads-status rec mem wait w =
 
 pub data-rules : DataRules
 data-rules = record { write = writes-data; read = reads-data; status = reads-status }
+
+pub read-never-shifts : ReadNeverShifts
+read-never-shifts rec mem wait w = reads-data rec mem wait w .shift
+
+pub function-moves-nothing : FunctionMovesNothing
+function-moves-nothing rec mem byte wait w over under =
+    let rule = sets-function rec mem byte wait w over under in (rule .place .counter, rule .place .shift, rule .cells)
+
+pub clear-leaves-rest : ClearLeavesRest
+clear-leaves-rest rec mem wait w =
+    let rule = clears rec mem 0x01 wait w (omega arith) (omega arith) in (
+      rule .homes .function,
+      rule .homes .control,
+      rule .homes .entry,
+      λ cell below. rule .cells (80 + cell) (omega arith) ∙ rw (le-ltb (80 + cell) 80 (omega arith)),
+    )
+
+-- a cell's own number, counted on from the first, is itself
+set-display : (n : Bool) (cell : ℕ) → cell < 80 → addressSet n (Display cell) ≡ 0x80 + addOfCell n cell .0
+unfolding addressSet
+set-display n cell below = ap (λ (c : ℕ). 0x80 + addOfCell n c .0) (mod-eq-of-lt below)
+
+pub address-set-goes : AddressSetGoes
+unfolding addressSet addressOf
+address-set-goes rec mem wait (Display cell) w on =
+    let n = rec .function .n in
+    let below = on-display cell on in
+    let a : ℕ = addOfCell n cell .0 in
+    let small : a < 128 = address-below n (Display cell) on in
+    let back : 0x80 + a - 0x80 ≡ a = omega arith in
+    ap (λ (b : ℕ). decided rec mem 0 b wait .rec .counter) (set-display n cell below)
+    ∙ sets-display rec mem (0x80 + a) wait w (omega arith) (omega arith) .named cell (add-names n (0x80 + a - 0x80) cell below (sym back)) .counter
+address-set-goes rec mem wait (Pattern cell) w on =
+    let same : cell % 64 ≡ cell = mod-eq-of-lt (on-pattern cell on) in
+    let back : 0x40 + cell - 0x40 ≡ cell = omega arith in
+    ap (λ (c : ℕ). decided rec mem 0 (0x40 + c) wait .rec .counter) same
+    ∙ sets-pattern rec mem (0x40 + cell) wait w (omega arith) (omega (arith, on-pattern cell on)) .counter
+    ∙ ap Pattern back
