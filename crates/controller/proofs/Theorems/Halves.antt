@@ -1,18 +1,16 @@
 -- Two halves make a whole: what a complete transfer does takes no notice of the width, and at width 4 the second half completes the
 -- byte of both.
 -- Assumes nothing.
-use mathlib.Core.Bool.{Bool, true, false, cond, not, _&&_, _||_, true≢false, false≢true}
+use mathlib.Core.Bool.{Bool, true, false, cond, _&&_, _||_, true≢false, false≢true}
 use mathlib.Core.List.{List}
 use mathlib.Core.Path.{_≡_, refl, sym, ap, subst, _∙_}
-use Prim.Native.Nat.{ℕ, _+_, _*_, _/_, _%_, _≤_, _<_, zero-le}
+use Prim.Native.Nat.{ℕ, _/_, _≤_, _<_, zero-le}
 use native.Mathlib.Omega.{arith}
 use lib.Dec.{eqb, ltb, leb}
-use lib.ListN.{length}
 use borrow.Author.Tests.{eqb-true, eqb-false, le-leb, ltb-false}
-use Rattle.controller.proofs.Laws.Choice.{cond-elim}
 use Rattle.controller.proofs.Laws.Instruction.{decoded-elim}
 use Rattle.controller.proofs.Laws.Record.{sound-busy, sound-counter, sound-of, sound-shift}
-use Rattle.controller.proofs.Theorems.Cases.{taken-narrow, taken-wide}
+use Rattle.controller.proofs.Laws.Taken.{taken-narrow, taken-wide}
 use Rattle.controller.proofs.Theorems.Sound.{transfer-keeps-sound}
 use Rattle.controller.specs.declared.cells.Counter.{Counter}
 use Rattle.controller.specs.declared.cells.Counter.the-variants.{Display, Pattern}
@@ -90,7 +88,7 @@ whole-of : (byte : ℕ) → wholeByte (byte / 16) (lowHalf byte) ≡ byte
 whole-of byte = omega arith
 
 -- with no half waiting the same record at width 8 waits likewise
-wide-waits : (rec : Record) (mem : List ℕ) (wait : ℕ) → Waits rec mem false Empty wait → Waits (atWidth true rec) mem true Empty wait
+pub wide-waits : (rec : Record) (mem : List ℕ) (wait : ℕ) → Waits rec mem false Empty wait → Waits (atWidth true rec) mem true Empty wait
 unfolding halfSound
 wide-waits rec mem wait w =
     record {

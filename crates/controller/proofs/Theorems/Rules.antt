@@ -1,8 +1,8 @@
 -- The instruction list, row by row: a byte's range says which row of the table it is, and the row's rule is read off field by field.
 -- Assumes nothing.
-use mathlib.Core.Bool.{Bool, true, false, cond, not, _&&_, and-false}
+use mathlib.Core.Bool.{Bool, true, false, cond, _&&_, and-false}
 use mathlib.Core.List.{List, _++_}
-use mathlib.Core.Logic.{_⊎_, inl, inr}
+use mathlib.Core.Logic.{inl, inr}
 use mathlib.Core.Path.{_≡_, refl, sym, ap, subst, _∙_}
 use Prim.Native.Nat.{ℕ, _+_, _-_, _/_, _%_, _≤_, _<_}
 use native.Mathlib.Nat.{mod-eq-of-lt}
@@ -17,8 +17,7 @@ use Rattle.controller.proofs.Laws.Completed.{carried-keeps}
 use Rattle.controller.proofs.Laws.Instruction.{decoded-address}
 use Rattle.controller.proofs.Laws.Kept.{wide-none}
 use Rattle.controller.proofs.Laws.Record.{sound-counter, sound-half, sound-shift, waited-keeps}
-use Rattle.controller.proofs.Laws.Taken.{accepted-wide, taken}
-use Rattle.controller.proofs.Theorems.Cases.{taken-wide}
+use Rattle.controller.proofs.Laws.Taken.{accepted-wide, taken, taken-wide}
 use Rattle.controller.proofs.Theorems.Cells.{addresses-match, wraps}
 use Rattle.controller.specs.declared.answers.Answer.the-variants.{Done, NoCell, StaleRead}
 use Rattle.controller.specs.declared.cells.Add.{Add}
@@ -29,7 +28,7 @@ use Rattle.controller.specs.declared.cells.Counter.the-variants.{Display
 use Rattle.controller.specs.Cells.{addOfCell, addressOf, addressSet, byteUnder, cellOfAdd, onCell, placeOf, stepped, wrapped}
 use Rattle.controller.specs.declared.decision.Decision.{Decision}
 use Rattle.controller.specs.declared.instruction.Instruction.{Instruction}
-use Rattle.controller.specs.declared.instruction.Instruction.the-variants.{Nothing, Clear, Home, SetEntry, SetControl, MoveCursor, ShiftDisplay, SetFunction, PatternAddress, DisplayAddress}
+use Rattle.controller.specs.declared.instruction.Instruction.the-variants.{Nothing, Clear, Home, SetEntry, SetControl, MoveCursor, ShiftDisplay, SetFunction, PatternAddress}
 use Rattle.controller.specs.declared.«record».Half.the-variants.{Empty}
 use Rattle.controller.specs.declared.«record».Record.{Record}
 use Rattle.controller.specs.Answers.{numberOf}
@@ -40,7 +39,7 @@ use Rattle.controller.specs.Execute.{addressed, carried, changed, comple
 use Rattle.controller.specs.Halves.{begun}
 use Rattle.controller.specs.Instruction.{bit, decoded}
 use Rattle.controller.specs.Record.{busyOver, waited, withShift}
-use Rattle.controller.specs.Rules.{Instructs, DoesNothing, Homes, Clears, GoesHome, SetsEntry, SetsControl, isSet, neighbour, beside, MovedRegister, MovesCounter, ShiftsDisplay, SetsFunction, GoesTo, SetsPattern, Names, LacksCell, SetsDisplay, InstructionRules, inDisplay, WritesData, ReadsData, Addresses, ReadsStatus, Wide, DataRules, ReadNeverShifts, FunctionMovesNothing, ClearLeavesRest, AddressSetGoes, SameFunction, SameControl, SameEntry, SamePlace}
+use Rattle.controller.specs.Rules.{Instructs, DoesNothing, Clears, GoesHome, SetsEntry, SetsControl, isSet, neighbour, beside, MovesCounter, ShiftsDisplay, SetsFunction, GoesTo, SetsPattern, Names, LacksCell, SetsDisplay, InstructionRules, inDisplay, WritesData, ReadsData, Addresses, ReadsStatus, Wide, DataRules, ReadNeverShifts, FunctionMovesNothing, ClearLeavesRest, AddressSetGoes, SameFunction, SameControl, SameEntry, SamePlace}
 
 -- a byte's range says which row of the table it is
 module _ (byte : ℕ) where
