@@ -17,7 +17,7 @@ use Rattle.controller.proofs.Theorems.Sound.{transfer-keeps-sound}
 use Rattle.lines.proofs.Laws.Lengths.{row-fits}
 use Rattle.lines.proofs.Theorems.Read.{read-is-sayable}
 use Rattle.controller.specs.Runs.{State, decidedOf, after, toldOf}
-use Rattle.controller.proofs.Laws.Answers.{number-below}
+use Rattle.controller.proofs.Laws.Answers.{done-is, number-below}
 use Rattle.lines.specs.Reading.{lineOf}
 use Rattle.lines.specs.ReportText.{row, rowSize}
 use Rattle.player.specs.Session.{sentOf, sessionOf}
@@ -25,7 +25,7 @@ use Rattle.player.specs.Report.{rowsOf}
 use Rattle.lines.specs.declared.reader.Line.{Line}
 use Rattle.player.specs.declared.session.Step.{Step}
 use Rattle.player.specs.Playing.{rowAt, Played}
-use Rattle.player.proofs.Laws.Session.{done-is, line-long, session-none, session-more, session-bad, rows-none, rows-last, rows-more}
+use Rattle.player.proofs.Laws.Session.{line-long, session-none, session-more, session-bad, rows-none, rows-last, rows-more}
 use borrow.Author.Tests.{le-ltb}
 use Rattle.lines.specs.declared.writer.Written.{Written}
 use Rattle.lines.specs.Writing.{onto, writing, wanting, Writes}
