@@ -13,9 +13,9 @@ tab = 0x09
 abbrev pub newline : ℕ
 newline = 0x0A
 
--- The digit that is worth this much: `0` to `9`, then `A` to `F`.
+-- The last hex digit of a number: `0` to `9`, then `A` to `F`. Of a number below ten it is its one digit.
 unfoldable pub digit : ℕ → ℕ
-digit worth = cond (ltb worth 10) (0x30 + worth) (0x37 + worth)
+digit number = cond (ltb (number % 16) 10) (0x30 + number % 16) (0x37 + number % 16)
 
 -- The byte is one of these two or stands between them.
 abbrev pub between : ℕ → ℕ → ℕ → Bool

@@ -5,7 +5,7 @@ ghost use lib.ListN.{length};
 ghost use lib.Seq.{sets};
 ghost use Rattle.lines.specs.Digits.{byteField, decimal, numberField};
 ghost use Rattle.lines.specs.Line.{kindField};
-use crate::digits::digit_for;
+use crate::digits::hex_digit;
 use crate::digits::letter_for;
 
 // A number in decimal, without leading zeros: the digits above the last, then the last.
@@ -14,11 +14,11 @@ fn put_decimal(number: u64, out: &mut [u8], at: usize) -> usize
     ensures { λ r. ⌜ (r ≡ at + length (decimal number)) × (now (out .exit) ≡ sets (now (out .entry)) at (decimal number)) ⌝ }
 {
     if number < 10 {
-        out[at] = digit_for(number as u8);
+        out[at] = hex_digit(number as u8);
         return at + 1;
     }
     let last = put_decimal(number / 10, out, at);
-    out[last] = digit_for((number % 10) as u8);
+    out[last] = hex_digit((number % 10) as u8);
     last + 1
 }
 
@@ -37,8 +37,8 @@ pub fn put_byte(byte: u8, out: &mut [u8], at: usize) -> usize
     requires { ⌜ at + 3 ≤ length (now out) ⌝ }
     ensures { λ r. ⌜ (r ≡ at + 3) × (now (out .exit) ≡ sets (now (out .entry)) at (byteField byte)) ⌝ }
 {
-    out[at] = digit_for(byte / 16);
-    out[at + 1] = digit_for(byte % 16);
+    out[at] = hex_digit(byte / 16);
+    out[at + 1] = hex_digit(byte % 16);
     out[at + 2] = b'\t';
     at + 3
 }

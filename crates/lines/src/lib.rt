@@ -4,6 +4,7 @@ mod fields;
 mod reader;
 mod writer;
 
+pub use digits::hex_digit;
 pub use reader::Line;
 pub use reader::read_line;
 pub use writer::Written;

@@ -9,14 +9,14 @@ use borrow.Author.Needs.{needs}
 use Rattle.lines.proofs.fields.put_byte.Statement.{statement}
 use Rattle.lines.proofs.fields.put_byte.Tie as tie
 
-digit-for-requires : tie.Need-digit-for-requires
-digit-for-requires c κs = search needs
+hex-digit-requires : tie.Need-hex-digit-requires
+hex-digit-requires c κs = search needs
 
 slice-write-out : tie.Need-slice-write-out
 slice-write-out c = search needs
 
-digit-for-requires-2 : tie.Need-digit-for-requires-2
-digit-for-requires-2 c κs = search needs
+hex-digit-requires-2 : tie.Need-hex-digit-requires-2
+hex-digit-requires-2 c κs = search needs
 
 add-out : tie.Need-add-out
 add-out c = search needs
@@ -42,15 +42,15 @@ returns c =
     let place = c .before .before .before .args .at in
     let one : place + 1 ≡ suc place = omega arith in
     let two : place + 2 ≡ suc (suc place) = omega arith in
-    (refl, simp (c .digit-for2 .ensures, c .before .digit-for .ensures, one, two))
+    (refl, simp (c .hex-digit2 .ensures, c .before .hex-digit .ensures, one, two))
 
 pub put-byte-spec : {M : Type 1} → statement M
 put-byte-spec =
     tie.close
     (tie.spec
-    digit-for-requires
+    hex-digit-requires
     slice-write-out
-    digit-for-requires-2
+    hex-digit-requires-2
     add-out
     slice-write-out-2
     add-out-2
