@@ -2,16 +2,17 @@
 -- Assumes nothing.
 use mathlib.Core.Bool.{Bool, cond, _&&_}
 use mathlib.Core.List.{List, [], _∷_, _++_}
+use Prim.Native.Char.{code}
 use Prim.Native.Nat.{ℕ, zero, suc, _+_, _-_, _/_, _%_}
 use lib.Dec.{ltb, leb}
 
 -- The tab that parts two fields.
 abbrev pub tab : ℕ
-tab = 0x09
+tab = code "\t"
 
 -- The newline that ends a line.
 abbrev pub newline : ℕ
-newline = 0x0A
+newline = code "\n"
 
 -- The last hex digit of a number: `0` to `9`, then `A` to `F`. Of a number below ten it is its one digit.
 unfoldable pub digit : ℕ → ℕ
