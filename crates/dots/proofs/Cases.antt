@@ -16,7 +16,7 @@ use Rattle.controller.specs.Cases.{Waits}
 use Rattle.controller.specs.Execute.{shifted, changed, completed, executed}
 use Rattle.controller.specs.Halves.{begun}
 use Rattle.controller.specs.Instruction.{decoded, bit}
-use Rattle.controller.specs.Record.{waited}
+use Rattle.controller.specs.Record.{busyOver}
 use Rattle.controller.specs.declared.decision.Decision.{Decision}
 use Rattle.controller.specs.declared.«record».Half.the-variants.{Empty}
 use Rattle.controller.specs.Cells.{addOfCell, lineLength, wrapped}
@@ -29,7 +29,7 @@ use Rattle.dots.specs.Picture.{answered, pictureByte, cellRow, covered, 
 
 -- what 18h and 1Ch do
 shift-taken : (rec : Record) (mem : List ℕ) (wait : ℕ) (left : Bool) → Waits rec mem true Empty wait
-    → decided rec mem 0 (cond left 0x18 0x1C) wait ≡ changed (shifted left (waited wait rec))
+    → decided rec mem 0 (cond left 0x18 0x1C) wait ≡ changed (shifted left (busyOver rec))
 unfolding badTransfer begun completed executed decoded bit
 shift-taken rec mem wait true w = taken-wide rec mem Empty 0 0x18 wait w refl
 shift-taken rec mem wait false w = taken-wide rec mem Empty 0 0x1C wait w refl
