@@ -2,13 +2,14 @@
 -- Assumes nothing.
 use mathlib.Core.Bool.{cond}
 use mathlib.Core.List.{List, [], _∷_}
+use Prim.Native.Char.{code}
 use Prim.Native.Nat.{ℕ, _/_, _%_}
 use lib.Dec.{ltb}
 use Rattle.lines.specs.Digits.{digit}
 
 -- The digit of a number at this power of ten; a blank where the number is smaller.
 unfoldable pub padded : ℕ → ℕ → ℕ
-padded number power = cond (ltb number power) 0x20 (digit (number / power % 10))
+padded number power = cond (ltb number power) (code " ") (digit (number / power % 10))
 
 -- A number in two places, a blank before one digit.
 unfoldable pub twoWide : ℕ → List ℕ

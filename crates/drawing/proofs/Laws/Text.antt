@@ -7,14 +7,14 @@ use Prim.Native.Nat.{ℕ, _+_, _-_, _≤_, _<_}
 use native.Mathlib.Omega.{arith}
 use lib.ListN.{length, getD, List·getD-append}
 use lib.Seq.{getD-append-add}
-use Rattle.controller.specs.Cells.{lineLength}
 use Rattle.controller.specs.declared.cells.Counter.{Counter}
 use Rattle.controller.specs.declared.cells.Counter.the-variants.{Display, Pattern}
 use Rattle.controller.specs.declared.«record».Half.{Half}
 use Rattle.controller.specs.declared.«record».Half.the-variants.{Empty, InstructionWrite, DataWrite, StatusRead, DataRead}
 use Rattle.controller.specs.declared.«record».Record.{Record}
+use Rattle.lines.specs.Text.{bytesOf}
 use Rattle.drawing.specs.Numbers.{twoWide}
-use Rattle.drawing.specs.State.{onOff, memoryShown, halfShown, writeShown, readShown, linesShown, linesWord, displayWord, shownFields, counterField}
+use Rattle.drawing.specs.State.{onOff, memoryShown, halfShown, writeShown, readShown, linesShown, shownFields, counterField}
 
 -- a field and what follows it, byte by byte
 pub memory-bytes : (counter : Counter) (rest : List ℕ)
@@ -45,7 +45,7 @@ pub shown-length : (rec : Record) → length (shownFields rec) ≡ 20
 unfolding shownFields onOff
 shown-length rec = go (rec .control .d)
   where
-    go : (d : Bool) → length (linesWord ++ (linesShown (rec .function .n) ∷ (displayWord ++ onOff d))) ≡ 20
+    go : (d : Bool) → length (bytesOf "lines " ++ (linesShown (rec .function .n) ∷ (bytesOf "  display " ++ onOff d))) ≡ 20
     go true = refl
     go false = refl
 
@@ -62,9 +62,3 @@ pub second-byte : (front back : List ℕ) (size place : ℕ) → length front �
 second-byte front back size place long past =
     let at : length front + (place - size) ≡ place = omega arith in
     sym (getD-append-add front back (place - size) 0) ∙ ap (λ (k : ℕ). getD (front ++ back) k 0) at
-
--- a line has some cells
-pub line-some : (n : Bool) → 0 < lineLength n
-unfolding lineLength
-line-some true = omega arith
-line-some false = omega arith

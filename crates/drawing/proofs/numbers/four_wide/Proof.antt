@@ -14,15 +14,15 @@ padded-digit-requires-2 c κs = search needs
 padded-digit-requires-3 : tie.Need-padded-digit-requires-3
 padded-digit-requires-3 c κs = search needs
 
-cast-digit-for : tie.Need-cast-digit-for
-cast-digit-for c = search needs
+cast-hex-digit : tie.Need-cast-hex-digit
+cast-hex-digit c = search needs
 
-digit-for-requires : tie.Need-digit-for-requires
-digit-for-requires c κs = search needs
+hex-digit-requires : tie.Need-hex-digit-requires
+hex-digit-requires c κs = search needs
 
 returns : tie.Need-returns
 unfolding fourWide
-returns c = simp (c .digit-for .ensures, c .before .padded-digit3 .ensures, c .before .before .padded-digit2 .ensures, c .before .before .before .padded-digit .ensures)
+returns c = simp (c .hex-digit .ensures, c .before .padded-digit3 .ensures, c .before .before .padded-digit2 .ensures, c .before .before .before .padded-digit .ensures)
 
 pub four-wide-spec : {M : Type 1} → statement M
 four-wide-spec =
@@ -31,6 +31,6 @@ four-wide-spec =
     padded-digit-requires
     padded-digit-requires-2
     padded-digit-requires-3
-    cast-digit-for
-    digit-for-requires
+    cast-hex-digit
+    hex-digit-requires
     returns)

@@ -8,16 +8,16 @@ use Rattle.drawing.proofs.numbers.two_wide.Tie as tie
 padded-digit-requires : tie.Need-padded-digit-requires
 padded-digit-requires c κs = search needs
 
-cast-digit-for : tie.Need-cast-digit-for
-cast-digit-for c = search needs
+cast-hex-digit : tie.Need-cast-hex-digit
+cast-hex-digit c = search needs
 
-digit-for-requires : tie.Need-digit-for-requires
-digit-for-requires c κs = search needs
+hex-digit-requires : tie.Need-hex-digit-requires
+hex-digit-requires c κs = search needs
 
 returns : tie.Need-returns
 unfolding twoWide
-returns c = simp (c .digit-for .ensures, c .before .padded-digit .ensures)
+returns c = simp (c .hex-digit .ensures, c .before .padded-digit .ensures)
 
 pub two-wide-spec : {M : Type 1} → statement M
 two-wide-spec =
-    tie.close (tie.spec padded-digit-requires cast-digit-for digit-for-requires returns)
+    tie.close (tie.spec padded-digit-requires cast-hex-digit hex-digit-requires returns)

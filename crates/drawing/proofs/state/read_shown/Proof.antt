@@ -5,15 +5,15 @@ use borrow.Author.Needs.{needs}
 use Rattle.drawing.proofs.state.read_shown.Statement.{statement}
 use Rattle.drawing.proofs.state.read_shown.Tie as tie
 
-digit-for-requires : tie.Need-digit-for-requires
-digit-for-requires c κs = search needs
+hex-digit-requires : tie.Need-hex-digit-requires
+hex-digit-requires c κs = search needs
 
-digit-for-requires-2 : tie.Need-digit-for-requires-2
-digit-for-requires-2 c κs = search needs
+hex-digit-requires-2 : tie.Need-hex-digit-requires-2
+hex-digit-requires-2 c κs = search needs
 
 returns : tie.Need-returns
 unfolding readShown
-returns c = simp (c .digit-for2 .ensures, c .before .digit-for .ensures)
+returns c = simp (c .hex-digit2 .ensures, c .before .hex-digit .ensures)
 
 pub read-shown-spec : {M : Type 1} → statement M
-read-shown-spec = tie.close (tie.spec digit-for-requires digit-for-requires-2 returns)
+read-shown-spec = tie.close (tie.spec hex-digit-requires hex-digit-requires-2 returns)

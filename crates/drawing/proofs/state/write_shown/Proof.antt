@@ -5,12 +5,12 @@ use borrow.Author.Needs.{needs}
 use Rattle.drawing.proofs.state.write_shown.Statement.{statement}
 use Rattle.drawing.proofs.state.write_shown.Tie as tie
 
-digit-for-requires : tie.Need-digit-for-requires
-digit-for-requires c κs = search needs
+hex-digit-requires : tie.Need-hex-digit-requires
+hex-digit-requires c κs = search needs
 
 returns : tie.Need-returns
 unfolding writeShown
-returns c = simp (c .digit-for .ensures)
+returns c = simp (c .hex-digit .ensures)
 
 pub write-shown-spec : {M : Type 1} → statement M
-write-shown-spec = tie.close (tie.spec digit-for-requires returns)
+write-shown-spec = tie.close (tie.spec hex-digit-requires returns)
