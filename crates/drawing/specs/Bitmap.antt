@@ -15,11 +15,11 @@ abbrev pub headLength : ℕ
 headLength = 13
 
 -- `P4`, the width and the height in pixels.
-unfoldable pub headFor : ℕ → ℕ → List ℕ
+abbrev pub headFor : ℕ → ℕ → List ℕ
 headFor width height = bytesOf "P4\n" ++ (fourDigits width ++ (bytesOf " " ++ (fourDigits height ++ bytesOf "\n")))
 
 -- The head of a panel's bitmap.
-unfoldable pub bitmapHead : Grid → List ℕ
+abbrev pub bitmapHead : Grid → List ℕ
 bitmapHead grid = headFor ((lastX grid + 1) * 8) ((lastY grid + 1) * 8)
 
 -- Eight pixels: the place in this column of the grid, at this row of pixels.

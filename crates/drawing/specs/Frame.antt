@@ -10,15 +10,15 @@ use Rattle.drawing.specs.declared.grid.Grid.{Grid}
 use Rattle.drawing.specs.Grid.{lastX, lastY, isBetween, isLit}
 
 -- The first place or the last.
-unfoldable pub isEnd : ℕ → ℕ → Bool
+abbrev pub isEnd : ℕ → ℕ → Bool
 isEnd last at = eqb at 0 || eqb at last
 
 -- The upper and the lower border: `+` at a corner, else `-`.
-unfoldable pub border : Bool → ℕ
+abbrev pub border : Bool → ℕ
 border corner = cond corner (code "+") (code "-")
 
 -- A dot: `#` lit, `.` dark.
-unfoldable pub dotChar : Bool → ℕ
+abbrev pub dotChar : Bool → ℕ
 dotChar lit = cond lit (code "#") (code ".")
 
 -- The byte of the text at a column and a row: `|` at the left and the right edge, a blank between characters, and a newline past

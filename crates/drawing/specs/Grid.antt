@@ -22,7 +22,7 @@ unfoldable pub isBetween : Grid → ℕ → ℕ → Bool
 isBetween grid x y = eqb (x % 6) 0 || eqb (y % (grid .rows + 1)) 0
 
 -- One of the five dots of a byte, counted from the left from 1: bit 4 is leftmost.
-unfoldable pub dotOf : ℕ → ℕ → Bool
+abbrev pub dotOf : ℕ → ℕ → Bool
 dotOf byte dot = eqb (byte / 2 ^ (5 - dot) % 2) 1
 
 -- The byte of the picture that holds the dot at a place: the empty rows above it are not counted.

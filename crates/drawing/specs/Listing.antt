@@ -18,11 +18,11 @@ unfoldable pub isSpare : Bool → ℕ → Size → ℕ → Bool
 isSpare n shift size place = ltb place 80 && not (isShown n shift size place)
 
 -- `display` and the first cell of the line.
-unfoldable pub displayLabel : ℕ → List ℕ
+abbrev pub displayLabel : ℕ → List ℕ
 displayLabel cell = bytesOf "display " ++ twoWide cell
 
 -- `pattern` and the first cell of the line.
-unfoldable pub patternLabel : ℕ → List ℕ
+abbrev pub patternLabel : ℕ → List ℕ
 patternLabel cell = bytesOf "pattern " ++ twoWide cell
 
 -- What stands before a line of cells: five lines are display cells, the rest pattern cells.
@@ -30,7 +30,7 @@ unfoldable pub labelFor : ℕ → List ℕ
 labelFor line = cond (ltb line 5) (displayLabel (line * 16)) (patternLabel ((line - 5) * 16))
 
 -- `*` for a spare cell.
-unfoldable pub markFor : Bool → ℕ
+abbrev pub markFor : Bool → ℕ
 markFor spare = cond spare (code "*") (code " ")
 
 -- One of the four bytes of a cell: a blank, its mark, and two digits.
@@ -42,7 +42,7 @@ cellChar spare byte at =
     (digit (byte % 16))))
 
 -- The same of the cell at this place of the memory.
-unfoldable pub cellField : List ℕ → Bool → ℕ → Size → ℕ → ℕ → ℕ
+abbrev pub cellField : List ℕ → Bool → ℕ → Size → ℕ → ℕ → ℕ
 cellField mem n shift size place at = cellChar (isSpare n shift size place) (getD mem place 0) at
 
 -- The byte of the listing at a column of a line: ten bytes of label, sixteen cells of four bytes, and a newline.
@@ -61,7 +61,7 @@ abbrev pub listingLength : ℕ
 listingLength = 9 * listingWidth
 
 -- What the marks mean.
-unfoldable pub legend : List ℕ
+abbrev pub legend : List ℕ
 legend = bytesOf "display cells marked * are not on this glass\n"
 
 -- The legend's length.

@@ -17,28 +17,28 @@ use Rattle.lines.specs.Text.{bytesOf}
 use Rattle.drawing.specs.Numbers.{twoWide, fiveWide}
 
 -- The lines that N drives: `2` or `1`.
-unfoldable pub linesShown : Bool → ℕ
+abbrev pub linesShown : Bool → ℕ
 linesShown n = cond n (code "2") (code "1")
 
 -- The display: `on` or `off`.
-unfoldable pub onOff : Bool → List ℕ
+abbrev pub onOff : Bool → List ℕ
 onOff d = cond d (bytesOf "on ") (bytesOf "off")
 
 -- The counter's memory: `display` or `pattern`.
-unfoldable pub memoryShown : Counter → List ℕ
+abbrev pub memoryShown : Counter → List ℕ
 memoryShown (Display cell) = bytesOf "display"
 memoryShown (Pattern cell) = bytesOf "pattern"
 
 -- A write's half: the letter of its kind, and its high four bits as they came over the bus, with 0h below.
-unfoldable pub writeShown : ℕ → ℕ → List ℕ
+abbrev pub writeShown : ℕ → ℕ → List ℕ
 writeShown letter high = letter ∷ code " " ∷ digit (high % 16) ∷ code "0" ∷ []
 
 -- A read's half: the letter of its kind, and its whole byte.
-unfoldable pub readShown : ℕ → ℕ → List ℕ
+abbrev pub readShown : ℕ → ℕ → List ℕ
 readShown letter byte = letter ∷ code " " ∷ digit (byte / 16) ∷ digit (byte % 16) ∷ []
 
 -- The half that waits: `none`, or the letter that session lines have for its kind, and what it holds.
-unfoldable pub halfShown : Half → List ℕ
+abbrev pub halfShown : Half → List ℕ
 halfShown Empty = bytesOf "none"
 halfShown (InstructionWrite high) = writeShown (letterOf 0) high
 halfShown (DataWrite high) = writeShown (letterOf 1) high
@@ -46,15 +46,15 @@ halfShown (StatusRead byte) = readShown (letterOf 2) byte
 halfShown (DataRead byte) = readShown (letterOf 3) byte
 
 -- The lines and the display.
-unfoldable pub shownFields : Record → List ℕ
+abbrev pub shownFields : Record → List ℕ
 shownFields rec = bytesOf "lines " ++ (linesShown (rec .function .n) ∷ (bytesOf "  display " ++ onOff (rec .control .d)))
 
 -- The counter: its memory and its cell.
-unfoldable pub counterField : Counter → List ℕ
+abbrev pub counterField : Counter → List ℕ
 counterField counter = bytesOf "  counter " ++ (memoryShown counter ++ (code " " ∷ twoWide (cellOf counter)))
 
 -- The shift, the busy time and the half that waits.
-unfoldable pub lastFields : Record → List ℕ
+abbrev pub lastFields : Record → List ℕ
 lastFields rec =
     bytesOf "  shift " ++ (twoWide (rec .shift)
     ++ (bytesOf "  busy " ++ (fiveWide (rec .busy)

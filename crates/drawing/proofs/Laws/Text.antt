@@ -21,13 +21,11 @@ pub memory-bytes : (counter : Counter) (rest : List ℕ)
     → memoryShown counter ++ rest
     ≡ getD (memoryShown counter) 0 0 ∷ getD (memoryShown counter) 1 0 ∷ getD (memoryShown counter) 2 0 ∷ getD (memoryShown counter) 3 0
     ∷ getD (memoryShown counter) 4 0 ∷ getD (memoryShown counter) 5 0 ∷ getD (memoryShown counter) 6 0 ∷ rest
-unfolding memoryShown
 memory-bytes (Display cell) rest = refl
 memory-bytes (Pattern cell) rest = refl
 
 pub half-bytes : (half : Half) (rest : List ℕ)
     → halfShown half ++ rest ≡ getD (halfShown half) 0 0 ∷ getD (halfShown half) 1 0 ∷ getD (halfShown half) 2 0 ∷ getD (halfShown half) 3 0 ∷ rest
-unfolding halfShown writeShown readShown
 half-bytes Empty rest = refl
 half-bytes (InstructionWrite high) rest = refl
 half-bytes (DataWrite high) rest = refl
@@ -36,13 +34,11 @@ half-bytes (DataRead byte) rest = refl
 
 -- a field that ends a text
 pub on-off-is : (d : Bool) → (getD (onOff d) 0 0 ∷ getD (onOff d) 1 0 ∷ getD (onOff d) 2 0 ∷ []) ≡ onOff d
-unfolding onOff
 on-off-is true = refl
 on-off-is false = refl
 
 -- how long the fields are
 pub shown-length : (rec : Record) → length (shownFields rec) ≡ 20
-unfolding shownFields onOff
 shown-length rec = go (rec .control .d)
   where
     go : (d : Bool) → length (bytesOf "lines " ++ (linesShown (rec .function .n) ∷ (bytesOf "  display " ++ onOff d))) ≡ 20
@@ -50,7 +46,6 @@ shown-length rec = go (rec .control .d)
     go false = refl
 
 pub counter-length : (counter : Counter) → length (counterField counter) ≡ 20
-unfolding counterField memoryShown twoWide
 counter-length (Display cell) = refl
 counter-length (Pattern cell) = refl
 

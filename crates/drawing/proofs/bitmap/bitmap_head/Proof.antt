@@ -1,6 +1,5 @@
 -- `drawing::bitmap::bitmap_head` meets its contract: each return follows from the tests and the calls before it.
 -- Assumes nothing.
-use Rattle.drawing.specs.Bitmap.{bitmapHead}
 use native.Mathlib.Omega.{arith}
 use borrow.Author.Needs.{needs}
 use Rattle.drawing.proofs.Laws.Grid.{last-x-most, last-y-most}
@@ -29,7 +28,6 @@ head-for-requires : tie.Need-head-for-requires
 head-for-requires c κs = search needs
 
 returns : tie.Need-returns
-unfolding bitmapHead
 returns c = simp (c .head-for .ensures, c .before .last-y .ensures, c .before .before .last-x .ensures)
 
 pub bitmap-head-spec : {M : Type 1} → statement M

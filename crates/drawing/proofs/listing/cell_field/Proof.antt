@@ -1,4 +1,3 @@
-use Rattle.drawing.specs.Listing.{cellField}
 use borrow.Author.Needs.{needs}
 use Rattle.drawing.proofs.listing.cell_field.Statement.{statement}
 use Rattle.drawing.proofs.listing.cell_field.Tie as tie
@@ -13,7 +12,6 @@ cell-char-requires : tie.Need-cell-char-requires
 cell-char-requires c κs = search needs
 
 returns : tie.Need-returns
-unfolding cellField
 returns c = simp (c .cell-char .ensures, c .before .byte-in .ensures, c .before .before .is-spare .ensures)
 
 pub cell-field-spec : {M : Type 1} → statement M

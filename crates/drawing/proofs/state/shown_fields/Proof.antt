@@ -1,6 +1,5 @@
 -- `drawing::state::shown_fields` meets its contract: each return follows from the tests and the calls before it.
 -- Assumes nothing.
-use Rattle.drawing.specs.State.{shownFields}
 use mathlib.Core.List.{List, _∷_, _++_}
 use mathlib.Core.Path.{ap}
 use Prim.Native.Nat.{ℕ}
@@ -39,7 +38,6 @@ array-write-text-4 : tie.Need-array-write-text-4
 array-write-text-4 c = search needs
 
 returns : tie.Need-returns
-unfolding shownFields
 returns c =
     let start = c .before .before .before .before in
     simp (c .lines-shown .ensures, c .before .before .before .on-off .ensures)
