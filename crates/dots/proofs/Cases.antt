@@ -44,12 +44,12 @@ p5 rec mem wait w n s = (
 
 -- With 08h for 00h in a display cell: no pattern changes, and no cell shows another row.
 rows-08 : (shapes mem : List ℕ) (row : ℕ) → rowOf shapes mem 0x00 row ≡ rowOf shapes mem 0x08 row
-unfolding rowOf patternRow
+unfolding rowOf
 rows-08 shapes mem row = refl
 
 module _ (mem : List ℕ) (cell : ℕ) (display : cell < 80) (within : cell < length mem) (holds : getD mem cell 0 ≡ 0x00) where
   code-08 : (shapes : List ℕ) (code row : ℕ) → rowOf shapes (set mem cell 0x08) code row ≡ rowOf shapes mem code row
-  unfolding rowOf patternRow
+  unfolding rowOf
   code-08 shapes code row =
       rw (getD-set-other mem cell (80 + code % 8 * 8 + row) 0x08 0 (λ e. omega arith)) refl
 

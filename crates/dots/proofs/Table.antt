@@ -80,11 +80,9 @@ row-blank place out = go (ltb place tableLength) refl
     go false e = row-past place (ltb-false place tableLength e)
 
 blank-below : (code : ℕ) → code < 0x21 → Blank code
-unfolding tableRow
 blank-below code h row r = row-blank (code * shapeRows + row) (simp (lt-leb 0x108 (code * shapeRows + row) (omega arith)))
 
 blank-above : (code : ℕ) → 0x7D < code → Blank code
-unfolding tableRow
 blank-above code h row r =
     row-blank (code * shapeRows + row)
     (simp (le-leb 0x108 (code * shapeRows + row) (omega arith), le-ltb (code * shapeRows + row) 0x3F0 (omega arith)))
@@ -151,7 +149,6 @@ shape-long : (code : ℕ) → code ≤ 0x7D → length (take shapeRows (drop (co
 shape-long code high = simp (length-take, length-drop, font-length) (omega arith)
 
 shape-row : (code row : ℕ) → row < shapeRows → getD (take shapeRows (drop (code * shapeRows) font)) row 0 ≡ tableRow font code row
-unfolding tableRow
 shape-row code row h = getD-take shapeRows (drop (code * shapeRows) font) row 0 h ∙ getD-drop (code * shapeRows) font row 0
 
 -- Two codes that are alike have the same number.

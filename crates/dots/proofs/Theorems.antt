@@ -73,7 +73,7 @@ later-stay rec mem size lit out =
 
 -- Every row that can be shown is below 32.
 row-of-below : (mem : List ℕ) (code row : ℕ) → rowOf font mem code row < 32
-unfolding rowOf patternRow tableRow
+unfolding rowOf
 row-of-below mem code row = either (λ (k : ℕ). k < 32) (ltb code 0x10) _ _ (mod-lt _ (lit< tt)) (row-below _)
 
 shown-below : (rec : Record) (mem : List ℕ) (lit : Bool) (row : ℕ) (shown : Shown) → shownRow font rec mem lit row shown < 32
@@ -170,7 +170,7 @@ on-glass n shift size cell fits =
     )
 
 pub cursor-shows : CursorShows
-unfolding cellRow covered isOn cursorSets
+unfolding cellRow covered cursorSets
 cursor-shows shapes rec mem cell =
     let same = eq-eqb cell cell refl in
     record {

@@ -117,5 +117,5 @@ abbrev pub tableLength : ℕ
 tableLength = 256 * shapeRows
 
 -- One row of a code's shape in a table of shapes.
-unfoldable pub tableRow : List ℕ → ℕ → ℕ → ℕ
+abbrev pub tableRow : List ℕ → ℕ → ℕ → ℕ
 tableRow shapes code row = getD shapes (code * shapeRows + row) 0

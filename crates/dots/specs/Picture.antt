@@ -23,7 +23,7 @@ use Rattle.dots.specs.Font.{font, tableLength, tableRow}
 use Rattle.dots.specs.Geometry.{fitsGlass, height, pictureLength, cellAt}
 
 -- Pattern (code modulo 8), low five bits. The pattern cells stand behind the 80 display cells, eight to a pattern.
-unfoldable pub patternRow : List ℕ → ℕ → ℕ → ℕ
+abbrev pub patternRow : List ℕ → ℕ → ℕ → ℕ
 patternRow mem code row = getD mem (80 + code % 8 * 8 + row) 0 % 32
 
 -- Codes 00h to 0Fh show a pattern, other codes come from the table of shapes.
@@ -31,7 +31,7 @@ unfoldable pub rowOf : List ℕ → List ℕ → ℕ → ℕ → ℕ
 rowOf shapes mem code row = cond (ltb code 0x10) (patternRow mem code row) (tableRow shapes code row)
 
 -- The counter is on this display cell.
-unfoldable pub isOn : Counter → ℕ → Bool
+abbrev pub isOn : Counter → ℕ → Bool
 isOn (Display at) cell = eqb at cell
 isOn (Pattern at) cell = false
 

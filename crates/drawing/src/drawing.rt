@@ -83,15 +83,12 @@ fn text_byte(dots: &[u8], rec: Record, grid: Grid, place: usize) -> u8
     requires { ⌜ Small grid ⌝ }
     ensures { λ r. ⌜ r ≡ textByte (now (dots .entry)) rec grid place ⌝ }
 {
-    if place < frame_length(grid) {
-        return frame_at(
-            dots,
-            grid,
-            place % frame_width(grid),
-            place / frame_width(grid),
-        );
+    let length = frame_length(grid);
+    if place < length {
+        let width = frame_width(grid);
+        return frame_at(dots, grid, place % width, place / width);
     }
-    state_byte(rec, place - frame_length(grid))
+    state_byte(rec, place - length)
 }
 
 fn head_byte(grid: Grid, place: usize) -> u8

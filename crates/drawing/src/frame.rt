@@ -38,13 +38,14 @@ pub fn frame_at(dots: &[u8], grid: Grid, x: usize, y: usize) -> u8
     requires { ⌜ (Small grid) × (x ≤ 255) × (y ≤ 255) ⌝ }
     ensures { λ r. ⌜ r ≡ frameAt (now (dots .entry)) grid x y ⌝ }
 {
-    if x == last_x(grid) + 1 {
+    let right = last_x(grid);
+    if x == right + 1 {
         return b'\n';
     }
     if is_end(last_y(grid), y) {
-        return border_for(is_end(last_x(grid), x));
+        return border_for(is_end(right, x));
     }
-    if is_end(last_x(grid), x) {
+    if is_end(right, x) {
         return b'|';
     }
     if is_between(grid, x, y) {

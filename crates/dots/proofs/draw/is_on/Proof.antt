@@ -15,11 +15,9 @@ enum-told : tie.Need-enum-told
 enum-told c = search needs
 
 returns : tie.Need-returns
-unfolding isOn
 returns c = simp (c .before .counter .given .1)
 
 returns-2 : tie.Need-returns-2
-unfolding isOn
 returns-2 c = simp (c .enum-told .given .1)
 
 pub is-on-spec : {M : Type 1} → statement M
