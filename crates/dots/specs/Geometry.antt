@@ -44,8 +44,8 @@ cellIn driven length shift line position =
 abbrev pub cellAt : Bool → ℕ → ℕ → ℕ → Shown
 cellAt n shift line position = cellIn (drivenLines n) (lineLength n) shift line position
 
--- With so many lines of so many cells driven, a position shows this display cell: its line is driven and on the glass, and its column
--- after the shift is on the glass.
+-- With so many lines of so many cells driven, a position shows this display cell: its line is driven and on the glass, and so is
+-- its column after the shift.
 unfoldable pub isShownIn : ℕ → ℕ → ℕ → Size → ℕ → Bool
 isShownIn driven length shift size cell =
     ltb (cell / length) driven

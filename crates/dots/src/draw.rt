@@ -6,7 +6,8 @@ ghost use Prim.Native.Nat.{_*_, _+_, _≤_, _<_};
 ghost use lib.ListN.{length};
 ghost use Rattle.dots.specs.Font.{tableLength};
 ghost use Rattle.dots.specs.Geometry.{ShownWithin, fitsGlass, height, pictureLength, tallest};
-ghost use Rattle.dots.specs.Picture.{Drawable, Pictured, pictureByte, cellRow, covered, dotsAt, isOn, cursorSets, painted, patternRow, rowOf, shownRow};
+ghost use Rattle.dots.specs.Picture.{Drawable, Pictured, pictureByte, cellRow, covered, dotsAt, isOn, cursorSets, painted};
+ghost use Rattle.dots.specs.Picture.{patternRow, rowOf, shownRow};
 use crate::font::table;
 use crate::font::table_row;
 use crate::geometry::Shown;
@@ -132,8 +133,11 @@ fn draw_row(
     at: usize,
     out: &mut [u8],
 )
-    requires { ⌜ (Drawable (now shapes) rec (now memory)) × (fitsGlass size ≡ true) × (at * size .columns + size .columns ≤ length (now out)) ⌝ }
-    ensures { λ _. ⌜ now (out .exit) ≡ painted (pictureByte (now (shapes .entry)) rec (now (memory .entry)) lit size) (at * size .columns) (size .columns) (now (out .entry)) ⌝ }
+    requires { ⌜ (Drawable (now shapes) rec (now memory)) × (fitsGlass size ≡ true)
+        × (at * size .columns + size .columns ≤ length (now out)) ⌝ }
+    ensures { λ _.
+        let byte = pictureByte (now (shapes .entry)) rec (now (memory .entry)) lit size in
+        ⌜ now (out .exit) ≡ painted byte (at * size .columns) (size .columns) (now (out .entry)) ⌝ }
 {
     let function = rec.function;
     let rows = rows_of(function);
@@ -149,8 +153,11 @@ fn draw_row(
 
 // The whole picture, row after row.
 fn draw(shapes: &[u8], rec: Record, memory: &[u8], lit: bool, size: Size, out: &mut [u8])
-    requires { ⌜ (Drawable (now shapes) rec (now memory)) × (fitsGlass size ≡ true) × (pictureLength (rec .function) size ≤ length (now out)) ⌝ }
-    ensures { λ _. ⌜ now (out .exit) ≡ painted (pictureByte (now (shapes .entry)) rec (now (memory .entry)) lit size) 0 (pictureLength (rec .function) size) (now (out .entry)) ⌝ }
+    requires { ⌜ (Drawable (now shapes) rec (now memory)) × (fitsGlass size ≡ true)
+        × (pictureLength (rec .function) size ≤ length (now out)) ⌝ }
+    ensures { λ _.
+        let byte = pictureByte (now (shapes .entry)) rec (now (memory .entry)) lit size in
+        ⌜ now (out .exit) ≡ painted byte 0 (pictureLength (rec .function) size) (now (out .entry)) ⌝ }
 {
     let function = rec.function;
     let rows = size.lines as usize * rows_of(function);

@@ -60,12 +60,14 @@ bitmapByte dots grid place =
 -- The cells line by line, then the state.
 unfoldable pub listingByte : List ℕ → Record → Size → ℕ → ℕ
 listingByte mem rec size place =
-    cond (ltb place listingLength) (listingAt mem (rec .function .n) (rec .shift) size (place % listingWidth) (place / listingWidth))
+    cond (ltb place listingLength)
+    (listingAt mem (rec .function .n) (rec .shift) size (place % listingWidth) (place / listingWidth))
     (stateByte rec (place - listingLength))
 
 -- The legend, then the listing.
 unfoldable pub cellsByte : List ℕ → Record → Size → ℕ → ℕ
-cellsByte mem rec size place = cond (ltb place legendLength) (getD legend place 0) (listingByte mem rec size (place - legendLength))
+cellsByte mem rec size place =
+    cond (ltb place legendLength) (getD legend place 0) (listingByte mem rec size (place - legendLength))
 
 -- The byte at a place of a drawing.
 abbrev pub drawnByte : Form → List ℕ → List ℕ → Record → Grid → ℕ → ℕ
@@ -100,8 +102,8 @@ pub record Drawn (form : Form) (rec : Record) (mem : List ℕ) (size : Size) (li
   pub number : numberOf (returned .answer) ≡ numberOf (answering form rec mem size (length before))
   pub out :
       after
-      ≡ outputLeft (answering form rec mem size (length before)) (drawnByte form (dotsOf rec mem size lit) mem rec (gridFor rec size))
-      (drawnLength form rec size) before
+      ≡ outputLeft (answering form rec mem size (length before))
+      (drawnByte form (dotsOf rec mem size lit) mem rec (gridFor rec size)) (drawnLength form rec size) before
 
 -- Of a picture that was taken 11 is left to be given.
 abbrev pub roomAnswer : Form → Grid → ℕ → Answer

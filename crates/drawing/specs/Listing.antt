@@ -1,5 +1,5 @@
--- All 144 cells as hexadecimal, sixteen to a line: the display cells, then the pattern cells. A display cell that no position of the
--- glass shows is marked `*`.
+-- All 144 cells as hexadecimal, sixteen to a line: the display cells, then the pattern cells. A display cell that no position of
+-- the glass shows is marked `*`.
 -- Assumes nothing.
 use mathlib.Core.Bool.{Bool, cond, not, _&&_}
 use mathlib.Core.List.{List, _++_}

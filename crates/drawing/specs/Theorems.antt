@@ -19,8 +19,8 @@ use Rattle.drawing.specs.declared.drawing.Form.{Form}
 use Rattle.drawing.specs.Grid.{dotOf, isLit}
 use Rattle.drawing.specs.Drawing.{Drawn, answering, dotsOf, drawnLength, gridFor}
 
--- Five columns of the grid for each column of the glass, and a row for each row of dots: the grid is lit where the picture's dot is,
--- the dots counted from the left from 1.
+-- Five columns of the grid for each column of the glass, and a row for each row of dots: the grid is lit where the picture's dot
+-- is, the dots counted from the left from 1.
 abbrev pub DotsInPlace : Type 0
 DotsInPlace =
     (rec : Record) (mem : List ℕ) (size : Size) (lit : Bool) (line row column dot : ℕ)

@@ -3,7 +3,8 @@ ghost use mathlib.Core.Path.{_≡_};
 ghost use Prim.Native.Nat.{_≤_, _<_};
 ghost use lib.ListN.{length};
 ghost use Rattle.dots.specs.Picture.{painted};
-ghost use Rattle.drawing.specs.Drawing.{Drawn, bitmapByte, bitmapLength, DrawnTaken, drawnByte, cellsByte, frameLength, frameWidth, headByte, lengthOf, listingByte, textByte};
+ghost use Rattle.drawing.specs.Drawing.{Drawn, bitmapByte, bitmapLength, DrawnTaken, drawnByte, cellsByte, frameLength};
+ghost use Rattle.drawing.specs.Drawing.{frameWidth, headByte, lengthOf, listingByte, textByte};
 ghost use Rattle.drawing.specs.Grid.{Small};
 use crate::bitmap::bitmap_head;
 use crate::bitmap::pixels_at;
@@ -161,7 +162,9 @@ fn fill(
     out: &mut [u8],
 )
     requires { ⌜ (Small grid) × (count ≡ lengthOf form grid) × (count ≤ length (now out)) ⌝ }
-    ensures { λ _. ⌜ now (out .exit) ≡ painted (drawnByte form (now (dots .entry)) (now (memory .entry)) rec grid) 0 count (now (out .entry)) ⌝ }
+    ensures { λ _.
+        let byte = drawnByte form (now (dots .entry)) (now (memory .entry)) rec grid in
+        ⌜ now (out .exit) ≡ painted byte 0 count (now (out .entry)) ⌝ }
 {
     let mut place = 0;
     while place < count {

@@ -1,9 +1,10 @@
-// All 144 cells as hexadecimal, sixteen to a line: the display cells, then the pattern cells. A display cell that no position of the
-// glass shows is marked `*`.
+// All 144 cells as hexadecimal, sixteen to a line: the display cells, then the pattern cells. A display cell that no position of
+// the glass shows is marked `*`.
 ghost use mathlib.Core.Path.{_≡_};
 ghost use Prim.Native.Nat.{_≤_};
 ghost use lib.ListN.{getD};
-ghost use Rattle.drawing.specs.Listing.{cellField, cellChar, displayLabel, isSpare, labelFor, legend, listingAt, markFor, patternLabel};
+ghost use Rattle.drawing.specs.Listing.{cellField, cellChar, displayLabel, isSpare, labelFor, legend, listingAt, markFor};
+ghost use Rattle.drawing.specs.Listing.{patternLabel};
 use crate::grid::byte_in;
 use crate::numbers::two_wide;
 use dots::Size;

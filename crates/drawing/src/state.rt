@@ -2,7 +2,8 @@
 ghost use mathlib.Core.List.{_++_};
 ghost use mathlib.Core.Path.{_≡_};
 ghost use lib.ListN.{getD};
-ghost use Rattle.drawing.specs.State.{counterField, halfShown, lastFields, linesShown, memoryShown, onOff, readShown, shownFields, stateByte, writeShown};
+ghost use Rattle.drawing.specs.State.{counterField, halfShown, lastFields, linesShown, memoryShown, onOff, readShown};
+ghost use Rattle.drawing.specs.State.{shownFields, stateByte, writeShown};
 use crate::grid::byte_in;
 use crate::numbers::four_wide;
 use crate::numbers::padded_digit;

@@ -12,16 +12,17 @@ use Rattle.dots.specs.declared.geometry.Size.{Size}
 use Rattle.dots.specs.Picture.{answered, output}
 use Rattle.interface.specs.declared.record_bytes.ReadRecord.{ReadRecord}
 use Rattle.interface.specs.declared.record_bytes.ReadRecord.the-variants.{Is, Broken}
-use Rattle.interface.specs.Filling.{Filling}
+use Rattle.interface.specs.Filling.{Filling, declined}
 use Rattle.interface.specs.RecordBytes.{recordIn}
 
 -- The picture of a record.
 abbrev pub drawingOf : Record → List ℕ → Size → Bool → List ℕ → Filling
-drawingOf rec mem size lit out = record { returned = numberOf (answered rec mem size (length out)); buffer = output rec mem size lit out }
+drawingOf rec mem size lit out =
+    record { returned = numberOf (answered rec mem size (length out)); buffer = output rec mem size lit out }
 
 -- The picture of what the record's bytes say: bytes that say none are an unsound record.
 unfoldable pub pictureFrom : ReadRecord → List ℕ → Size → Bool → List ℕ → Filling
-pictureFrom Broken mem size lit out = record { returned = numberOf Unsound; buffer = out }
+pictureFrom Broken mem size lit out = declined Unsound out
 pictureFrom (Is rec) mem size lit out = drawingOf rec mem size lit out
 
 -- The size that two bytes say.

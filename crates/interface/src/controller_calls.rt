@@ -39,7 +39,9 @@ fn transfer_from(
     wait: u32,
 ) -> u32
     requires { ⌜ length (now bytes) ≡ 24 ⌝ }
-    ensures { λ r. ⌜ Leaves (callOf (decided rec (now (memory .entry)) kind byte wait) (now (memory .entry))) r (now (bytes .exit)) (now (memory .exit)) ⌝ }
+    ensures { λ r.
+        let call = callOf (decided rec (now (memory .entry)) kind byte wait) (now (memory .entry)) in
+        ⌜ Leaves call r (now (bytes .exit)) (now (memory .exit)) ⌝ }
 {
     let outcome = transfer(rec, memory, kind, byte, wait);
     leave(outcome, bytes)
@@ -54,7 +56,9 @@ pub extern "C" fn yaropesk_transfer(
     byte: u8,
     wait: u32,
 ) -> u32
-    ensures { λ r. ⌜ Leaves (transferCall (now (bytes .entry)) (now (memory .entry)) kind byte wait) r (now (bytes .exit)) (now (memory .exit)) ⌝ }
+    ensures { λ r.
+        let call = transferCall (now (bytes .entry)) (now (memory .entry)) kind byte wait in
+        ⌜ Leaves call r (now (bytes .exit)) (now (memory .exit)) ⌝ }
 {
     let read = read_record(bytes);
     match read {
@@ -66,7 +70,9 @@ pub extern "C" fn yaropesk_transfer(
 // A reset over 24 bytes, whatever they say.
 fn reset_from(bytes: &mut [u8], memory: &mut [u8]) -> u32
     requires { ⌜ length (now bytes) ≡ 24 ⌝ }
-    ensures { λ r. ⌜ Leaves (callOf (resetDecided (recordFrom (now (bytes .entry))) (now (memory .entry))) (now (memory .entry))) r (now (bytes .exit)) (now (memory .exit)) ⌝ }
+    ensures { λ r.
+        let call = callOf (resetDecided (recordFrom (now (bytes .entry))) (now (memory .entry))) (now (memory .entry)) in
+        ⌜ Leaves call r (now (bytes .exit)) (now (memory .exit)) ⌝ }
 {
     let outcome = reset(record_from(bytes), memory);
     leave(outcome, bytes)

@@ -29,7 +29,9 @@ pub extern "C" fn yaropesk_picture(
     lit: u8,
     out: &mut [u8],
 ) -> u32
-    ensures { λ r. ⌜ Fills (pictureCall (now (bytes .entry)) (now (memory .entry)) columns lines lit (now (out .entry))) r (now (out .exit)) ⌝ }
+    ensures { λ r.
+        let call = pictureCall (now (bytes .entry)) (now (memory .entry)) columns lines lit (now (out .entry)) in
+        ⌜ Fills call r (now (out .exit)) ⌝ }
 {
     let read = read_record(bytes);
     match read {

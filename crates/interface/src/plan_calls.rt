@@ -15,7 +15,9 @@ use planner::plan;
 
 // The plan of the wish that was read.
 fn plan_for(wish: Wish, marks: &[u8], values: &[u8], out: &mut [u8]) -> u32
-    ensures { λ r. ⌜ Fills (planningOf (replyTo wish (now (marks .entry)) (now (values .entry)) (now (out .entry))) (now (out .entry))) r (now (out .exit)) ⌝ }
+    ensures { λ r.
+        let reply = replyTo wish (now (marks .entry)) (now (values .entry)) (now (out .entry)) in
+        ⌜ Fills (planningOf reply (now (out .entry))) r (now (out .exit)) ⌝ }
 {
     let planned = plan(wish, marks, values, out);
     let answer = planned.answer;
@@ -38,7 +40,9 @@ fn refuse_wish(marks: &[u8], values: &[u8]) -> u32
 // The plan for a wish, six bytes a record, into a buffer of at least 2,808 bytes.
 #[no_mangle]
 pub extern "C" fn yaropesk_plan(wish: &[u8], marks: &[u8], values: &[u8], out: &mut [u8]) -> u32
-    ensures { λ r. ⌜ Fills (planCall (now (wish .entry)) (now (marks .entry)) (now (values .entry)) (now (out .entry))) r (now (out .exit)) ⌝ }
+    ensures { λ r.
+        let call = planCall (now (wish .entry)) (now (marks .entry)) (now (values .entry)) (now (out .entry)) in
+        ⌜ Fills call r (now (out .exit)) ⌝ }
 {
     let read = read_wish(wish);
     match read {

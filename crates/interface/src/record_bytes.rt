@@ -1,7 +1,8 @@
 // A controller's record as 24 bytes.
 ghost use mathlib.Core.Path.{_≡_};
 ghost use lib.ListN.{length};
-ghost use Rattle.interface.specs.RecordBytes.{bitByte, counterFrom, halfByte, halfFrom, isRecordLong, memoryByte, recordBytes, recordFrom, recordAs, recordIn, valueByte, widthByte};
+ghost use Rattle.interface.specs.RecordBytes.{bitByte, counterFrom, halfByte, halfFrom, isRecordLong, memoryByte};
+ghost use Rattle.interface.specs.RecordBytes.{recordBytes, recordFrom, recordAs, recordIn, valueByte, widthByte};
 use controller::Control;
 use controller::Counter;
 use controller::Entry;

@@ -1,5 +1,5 @@
--- `dots::draw::draw_row` meets its contract. Invariant: of this row the bytes before `column` are painted. Measure: the columns that
--- are left.
+-- `dots::draw::draw_row` meets its contract. Invariant: of this row the bytes before `column` are painted. Measure: the columns
+-- that are left.
 -- Assumes nothing.
 use Prim.Native.Nat.{_*_, _-_, _≤_}
 use mathlib.Core.Path.{_≡_, ap, _∙_}

@@ -1,4 +1,5 @@
--- `dots::draw::is_on` meets its contract: in each arm the counter is of that case of `isOn`.
+-- `dots::draw::is_on` meets its contract: a counter on a display cell is compared with the cell, one on a pattern cell is on
+-- none.
 -- Assumes nothing.
 use Rattle.dots.specs.Picture.{isOn}
 use borrow.Author.Needs.{needs}

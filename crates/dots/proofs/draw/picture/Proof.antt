@@ -1,5 +1,5 @@
--- `dots::draw::picture` meets its contract: each test that was passed or not says which answer `answerFor` gives, and the output is
--- untouched, or painted by `draw`.
+-- `dots::draw::picture` meets its contract: each test that was passed or not says which answer `answerFor` gives, and the output
+-- is untouched, or painted by `draw`.
 -- Assumes nothing.
 use mathlib.Core.Path.{refl, sym, _∙_}
 use borrow.Author.Needs.{needs}

@@ -1,5 +1,4 @@
--- `dots::geometry::cell_at` meets its contract: at each return N says how many lines are driven and how long they
--- are.
+-- `dots::geometry::cell_at` meets its contract: N=1 drives two lines of 40 cells, N=0 one of 80.
 -- Assumes nothing.
 use Rattle.controller.specs.Cells.{lineLength}
 use Rattle.dots.specs.Geometry.{drivenLines}

@@ -1,5 +1,5 @@
--- `dots::geometry::is_shown_in` meets its contract: what is left of a division by the length is below it, so that the column can be
--- turned back; the three tests are those of `isShownIn`.
+-- `dots::geometry::is_shown_in` meets its contract: what is left of a division by the length is below it, so that the column can
+-- be turned back; the three tests are those of `isShownIn`.
 -- Assumes nothing.
 use native.Mathlib.Nat.{mod-lt}
 use native.Mathlib.Omega.{arith}

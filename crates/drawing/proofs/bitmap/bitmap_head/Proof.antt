@@ -1,4 +1,4 @@
--- `drawing::bitmap::bitmap_head` meets its contract: each return follows from the tests and the calls before it.
+-- `drawing::bitmap::bitmap_head` meets its contract: eight pixels for each column and row of a small grid are numbers that fit.
 -- Assumes nothing.
 use native.Mathlib.Omega.{arith}
 use borrow.Author.Needs.{needs}

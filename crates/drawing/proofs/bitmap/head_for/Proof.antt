@@ -1,4 +1,4 @@
--- `drawing::bitmap::head_for` meets its contract: each return follows from the tests and the calls before it.
+-- `drawing::bitmap::head_for` meets its contract: the four digits of width and height stand between the words of the head.
 -- Assumes nothing.
 use borrow.Author.Needs.{needs}
 use Rattle.drawing.proofs.bitmap.head_for.Statement.{statement}

@@ -1,4 +1,4 @@
--- `drawing::drawing::bitmap_byte` meets its contract: each return follows from the tests and the calls before it.
+-- `drawing::drawing::bitmap_byte` meets its contract: past the head, a place of the bitmap has a small column and row.
 -- Assumes nothing.
 use Rattle.drawing.specs.Drawing.{bitmapByte}
 use borrow.Author.Tests.{lt-ltb, le-ltb}

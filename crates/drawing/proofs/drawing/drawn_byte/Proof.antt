@@ -1,4 +1,5 @@
--- `drawing::drawing::drawn_byte` meets its contract: each form has its own function; a place of the bitmap is within the bitmap's length.
+-- `drawing::drawing::drawn_byte` meets its contract: each form has its own function; a place of the bitmap is within the bitmap's
+-- length.
 -- Assumes nothing.
 use borrow.Author.Needs.{needs}
 use Rattle.drawing.proofs.drawing.drawn_byte.Statement.{statement}

@@ -1,4 +1,5 @@
--- `drawing::drawing::fill` meets its contract: the bytes before `place` are painted; the measure is what is left.
+-- `drawing::drawing::fill` meets its contract. Invariant: the bytes before `place` are drawn, the others as found. Measure: the
+-- bytes that are left.
 -- Assumes nothing.
 use mathlib.Core.Path.{_≡_, sym, ap, _∙_}
 use mathlib.Core.List.{List}

@@ -1,4 +1,4 @@
--- `drawing::drawing::frame_length` meets its contract: each return follows from the tests and the calls before it.
+-- `drawing::drawing::frame_length` meets its contract: a small grid has at most 6,050 places, its edges counted.
 -- Assumes nothing.
 use Rattle.drawing.specs.Drawing.{frameLength}
 use native.Mathlib.Omega.{arith}

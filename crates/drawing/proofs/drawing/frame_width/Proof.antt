@@ -1,4 +1,5 @@
--- `drawing::drawing::frame_width` meets its contract: each return follows from the tests and the calls before it.
+-- `drawing::drawing::frame_width` meets its contract: a small grid has at most 242 columns, the edge and the end of the line
+-- counted.
 -- Assumes nothing.
 use Rattle.drawing.specs.Drawing.{frameWidth}
 use native.Mathlib.Omega.{arith}

@@ -1,4 +1,4 @@
--- `drawing::drawing::head_byte` meets its contract: each return follows from the tests and the calls before it.
+-- `drawing::drawing::head_byte` meets its contract: the head that was laid out is read at the place.
 -- Assumes nothing.
 use borrow.Author.Needs.{needs}
 use Rattle.drawing.proofs.drawing.head_byte.Statement.{statement}

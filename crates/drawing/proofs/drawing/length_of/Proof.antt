@@ -1,4 +1,4 @@
--- `drawing::drawing::length_of` meets its contract: each return follows from the tests and the calls before it.
+-- `drawing::drawing::length_of` meets its contract: the parts of each form add up to a length that fits.
 -- Assumes nothing.
 use native.Mathlib.Omega.{arith}
 use Rattle.drawing.proofs.Laws.Drawing.{frame-most}

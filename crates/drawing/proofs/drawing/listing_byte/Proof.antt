@@ -1,3 +1,6 @@
+-- `drawing::drawing::listing_byte` meets its contract: within the nine lines a place has a small column and line, and a later one
+-- is of the state's line.
+-- Assumes nothing.
 use Rattle.drawing.specs.Drawing.{listingByte}
 use borrow.Author.Tests.{lt-ltb, le-ltb}
 use borrow.Author.Needs.{needs}

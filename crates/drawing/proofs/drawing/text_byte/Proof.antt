@@ -1,5 +1,5 @@
--- `drawing::drawing::text_byte` meets its contract: a place within the frame's length has a small column and row in it, and a later one is
--- of the state's line.
+-- `drawing::drawing::text_byte` meets its contract: a place within the frame's length has a small column and row in it, and a
+-- later one is of the state's line.
 -- Assumes nothing.
 use Rattle.drawing.proofs.Laws.Drawing.{width-some, frame-column, frame-row}
 use Rattle.drawing.specs.Drawing.{textByte}

@@ -1,5 +1,5 @@
--- `drawing::frame::frame_at` meets its contract: the tests passed before a return are those of `frameAt` that were not met, with the grid's
--- last column and row for what the calls gave.
+-- `drawing::frame::frame_at` meets its contract: the tests passed before a return are those of `frameAt` that were not met, with
+-- the grid's last column and row for what the calls gave.
 -- Assumes nothing.
 use native.Mathlib.Omega.{arith}
 use Rattle.drawing.proofs.Laws.Grid.{last-x-most}

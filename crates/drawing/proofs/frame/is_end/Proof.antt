@@ -1,4 +1,4 @@
--- `drawing::frame::is_end` meets its contract: each return follows from the tests and the calls before it.
+-- `drawing::frame::is_end` meets its contract: the first place is tested, then the last.
 -- Assumes nothing.
 use borrow.Author.Tests.{eq-eqb, ne-eqb}
 use Rattle.drawing.proofs.frame.is_end.Statement.{statement}

@@ -1,3 +1,5 @@
+-- `drawing::grid::last_x` meets its contract: six columns for each of at most 40.
+-- Assumes nothing.
 use Rattle.drawing.specs.Grid.{lastX}
 use mathlib.Core.Path.{refl}
 use borrow.Author.Needs.{needs}

@@ -1,4 +1,4 @@
--- `drawing::listing::cell_char` meets its contract: each return follows from the tests and the calls before it.
+-- `drawing::listing::cell_char` meets its contract: the place in the cell's four bytes is 0, 1, 2 or any other.
 -- Assumes nothing.
 use Rattle.drawing.specs.Listing.{cellChar}
 use borrow.Author.Tests.{eq-eqb, ne-eqb}

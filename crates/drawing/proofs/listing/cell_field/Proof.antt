@@ -1,3 +1,5 @@
+-- `drawing::listing::cell_field` meets its contract: the mark, the byte and the place are those of the cell.
+-- Assumes nothing.
 use borrow.Author.Needs.{needs}
 use Rattle.drawing.proofs.listing.cell_field.Statement.{statement}
 use Rattle.drawing.proofs.listing.cell_field.Tie as tie

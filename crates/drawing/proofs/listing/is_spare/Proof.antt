@@ -1,3 +1,6 @@
+-- `drawing::listing::is_spare` meets its contract: below 80 the place is a display cell, and the glass is asked for it; past it
+-- none is spare.
+-- Assumes nothing.
 use Rattle.drawing.specs.Listing.{isSpare}
 use borrow.Author.Tests.{lt-ltb, le-ltb}
 use borrow.Author.Needs.{needs}

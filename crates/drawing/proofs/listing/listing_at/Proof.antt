@@ -1,3 +1,6 @@
+-- `drawing::listing::listing_at` meets its contract: the end of the line is tested, then the label; what is left is one of
+-- sixteen cells.
+-- Assumes nothing.
 use Rattle.drawing.specs.Listing.{listingAt}
 use borrow.Author.Tests.{lt-ltb, le-ltb, eq-eqb, ne-eqb}
 use borrow.Author.Needs.{needs}

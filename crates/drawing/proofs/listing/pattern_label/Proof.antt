@@ -1,4 +1,4 @@
--- `drawing::listing::pattern_label` meets its contract: each return follows from the tests and the calls before it.
+-- `drawing::listing::pattern_label` meets its contract: the word, and the two places of the number.
 -- Assumes nothing.
 use borrow.Author.Needs.{needs}
 use Rattle.drawing.proofs.listing.pattern_label.Statement.{statement}

@@ -1,4 +1,5 @@
--- `drawing::numbers::padded_digit` meets its contract: each return follows from the tests and the calls before it.
+-- `drawing::numbers::padded_digit` meets its contract: a number below the power has a blank, any other its digit, which is below
+-- ten.
 -- Assumes nothing.
 use Rattle.drawing.specs.Numbers.{padded}
 use borrow.Author.Tests.{lt-ltb, le-ltb}

@@ -1,4 +1,5 @@
--- `drawing::state::counter_field` meets its contract: each return follows from the tests and the calls before it.
+-- `drawing::state::counter_field` meets its contract: the name's seven bytes and the number's two are stored where the blank
+-- field has room for them.
 -- Assumes nothing.
 use Rattle.drawing.proofs.Laws.Text.{memory-bytes}
 use borrow.Author.Needs.{needs}

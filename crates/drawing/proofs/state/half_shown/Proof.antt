@@ -1,4 +1,4 @@
--- `drawing::state::half_shown` meets its contract: each return follows from the tests and the calls before it.
+-- `drawing::state::half_shown` meets its contract: each kind of half has the letter that session lines have for it.
 -- Assumes nothing.
 use Rattle.lines.specs.Line.{letterOf}
 use borrow.Author.Needs.{needs}

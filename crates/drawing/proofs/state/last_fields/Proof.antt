@@ -1,4 +1,5 @@
--- `drawing::state::last_fields` meets its contract: each return follows from the tests and the calls before it.
+-- `drawing::state::last_fields` meets its contract: the shift's two bytes, the busy time's five and the half's four are stored
+-- where the blank fields have room for them.
 -- Assumes nothing.
 use Rattle.drawing.proofs.Laws.Text.{half-bytes}
 use borrow.Author.Needs.{needs}

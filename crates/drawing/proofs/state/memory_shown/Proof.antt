@@ -1,4 +1,4 @@
--- `drawing::state::memory_shown` meets its contract: each return follows from the tests and the calls before it.
+-- `drawing::state::memory_shown` meets its contract: each memory has its name.
 -- Assumes nothing.
 use borrow.Author.Needs.{needs}
 use Rattle.drawing.proofs.state.memory_shown.Statement.{statement}

@@ -1,4 +1,4 @@
--- `drawing::state::on_off` meets its contract: each return follows from the tests and the calls before it.
+-- `drawing::state::on_off` meets its contract: D chooses the word.
 -- Assumes nothing.
 use Rattle.drawing.proofs.state.on_off.Statement.{statement}
 use Rattle.drawing.proofs.state.on_off.Tie as tie

@@ -1,4 +1,5 @@
--- `drawing::state::shown_fields` meets its contract: each return follows from the tests and the calls before it.
+-- `drawing::state::shown_fields` meets its contract: the lines' digit and the display's three bytes are stored where the blank
+-- fields have room for them.
 -- Assumes nothing.
 use mathlib.Core.List.{List, _∷_, _++_}
 use mathlib.Core.Path.{ap}

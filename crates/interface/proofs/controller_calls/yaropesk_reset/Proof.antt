@@ -1,3 +1,6 @@
+-- `interface::controller_calls::yaropesk_reset` meets its contract: a record of another length is told 1, then a memory of
+-- another length 2; else 24 bytes are reset.
+-- Assumes nothing.
 use Rattle.interface.specs.ControllerCalls.{resetCall}
 use borrow.Author.Tests.{eqb-true, not-true, not-false}
 use mathlib.Core.Path.{sym, _∙_}

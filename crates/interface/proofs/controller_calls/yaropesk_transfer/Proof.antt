@@ -1,3 +1,6 @@
+-- `interface::controller_calls::yaropesk_transfer` meets its contract: bytes that say no record are told 1; those that say one
+-- are 24, so that the record left fits.
+-- Assumes nothing.
 use Rattle.interface.specs.ControllerCalls.{transferFrom}
 use Rattle.interface.proofs.Laws.Read.{read-length}
 use mathlib.Core.Path.{sym, _∙_}

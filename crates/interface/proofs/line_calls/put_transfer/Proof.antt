@@ -1,3 +1,5 @@
+-- `interface::line_calls::put_transfer` meets its contract: the six bytes are copied over the first six of the buffer.
+-- Assumes nothing.
 use mathlib.Core.Path.{_∙_}
 use lib.Seq.{take-length}
 use borrow.Author.Needs.{needs}

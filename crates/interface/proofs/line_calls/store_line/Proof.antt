@@ -1,3 +1,6 @@
+-- `interface::line_calls::store_line` meets its contract: the reader's own answer is told first, then 11 where six bytes do not
+-- fit.
+-- Assumes nothing.
 use Rattle.interface.specs.LineCalls.{stored}
 use borrow.Author.Tests.{lt-ltb, le-ltb, not-true, not-false}
 use mathlib.Core.Path.{sym, _∙_}

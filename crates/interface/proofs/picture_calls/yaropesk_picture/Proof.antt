@@ -1,3 +1,6 @@
+-- `interface::picture_calls::yaropesk_picture` meets its contract: bytes that say no record are told 1, and else the picture is
+-- of the record that they say.
+-- Assumes nothing.
 use Rattle.interface.specs.PictureCalls.{pictureFrom}
 use mathlib.Core.Path.{sym, _∙_}
 use borrow.Author.Needs.{needs}

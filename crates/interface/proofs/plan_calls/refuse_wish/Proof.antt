@@ -1,3 +1,6 @@
+-- `interface::plan_calls::refuse_wish` meets its contract: the marks are asked for their length, then the values; else there is
+-- no wish.
+-- Assumes nothing.
 use Rattle.interface.specs.PlanCalls.{wishless}
 use borrow.Author.Tests.{not-true, not-false}
 use mathlib.Core.Path.{sym, _∙_}

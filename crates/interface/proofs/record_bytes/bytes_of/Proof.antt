@@ -1,3 +1,5 @@
+-- `interface::record_bytes::bytes_of` meets its contract: each of the 24 bytes is what `recordBytes` has in its place.
+-- Assumes nothing.
 use Rattle.interface.specs.RecordBytes.{recordBytes}
 use borrow.Author.Needs.{needs}
 use Rattle.interface.proofs.record_bytes.bytes_of.Statement.{statement}

@@ -1,3 +1,5 @@
+-- `interface::record_bytes::counter_from` meets its contract: 1 is the pattern memory, any other byte the display memory.
+-- Assumes nothing.
 use borrow.Author.Tests.{eq-eqb, ne-eqb}
 use Rattle.interface.proofs.record_bytes.counter_from.Statement.{statement}
 use Rattle.interface.proofs.record_bytes.counter_from.Tie as tie

@@ -1,3 +1,5 @@
+-- `interface::record_bytes::half_from` meets its contract: 1 to 4 are the kinds of half, any other byte is none.
+-- Assumes nothing.
 use borrow.Author.Tests.{eq-eqb, ne-eqb}
 use Rattle.interface.proofs.record_bytes.half_from.Statement.{statement}
 use Rattle.interface.proofs.record_bytes.half_from.Tie as tie

@@ -1,4 +1,5 @@
--- `interface::record_bytes::read_record` meets its contract: at each return what led there says which case of `recordIn` holds.
+-- `interface::record_bytes::read_record` meets its contract: 24 bytes are compared with those of the record that they would say;
+-- any other length says none.
 -- Assumes nothing.
 use Rattle.interface.specs.RecordBytes.{recordIn}
 use borrow.Author.Tests.{eqb-true, not-true, not-false}
