@@ -87,10 +87,10 @@ dataWrite byte wait = record { kind = 1; byte = byte; wait = wait }
 abbrev pub P8 : Type 0
 P8 =
     (rec : Record) (mem : List ℕ) (wait later : ℕ) → Waits rec mem false Empty wait
-    → (numberOf (decidedOf (record { rec = rec; mem = mem }) (dataWrite 0x40 wait) .answer) ≡ 5)
-    × (numberOf (decidedOf (ran (record { rec = rec; mem = mem }) (dataWrite 0x40 wait ∷ [])) (dataWrite 0x10 later) .answer) ≡ 0)
-    × (getD (ran (record { rec = rec; mem = mem }) (dataWrite 0x40 wait ∷ dataWrite 0x10 later ∷ []) .mem) (placeOf (rec .counter)) 0
-    ≡ 0x41)
+    → let start : State = record { rec = rec; mem = mem } in
+    (numberOf (decidedOf start (dataWrite 0x40 wait) .answer) ≡ 5)
+    × (numberOf (decidedOf (ran start (dataWrite 0x40 wait ∷ [])) (dataWrite 0x10 later) .answer) ≡ 0)
+    × (getD (ran start (dataWrite 0x40 wait ∷ dataWrite 0x10 later ∷ []) .mem) (placeOf (rec .counter)) 0 ≡ 0x41)
 
 -- P9: half instruction 0h waiting, then 30h: Home, answer 0.
 abbrev pub P9 : Type 0

@@ -53,7 +53,8 @@ NotWishes =
 abbrev pub PlanRefusals : Type 0
 PlanRefusals =
     (wish : Wish) (marks values out : List ℕ) (returned : Planned) (after : List ℕ)
-    → Plans (replyTo wish marks values out) out returned after → (numberOf (returned .answer) ≡ 0 → ⊥) → (returned .count ≡ 0) × (after ≡ out)
+    → Plans (replyTo wish marks values out) out returned after
+    → (numberOf (returned .answer) ≡ 0 → ⊥) → (returned .count ≡ 0) × (after ≡ out)
 
 -- No second answer fits.
 abbrev pub OnePlan : Type 0
