@@ -9,6 +9,7 @@ use Prim.Native.Nat.{ℕ, _<_, _≤_}
 use lib.Dec.{ltb}
 use lib.ListN.{length, take}
 use Rattle.controller.specs.declared.answers.Answer.the-variants.{Done}
+use Rattle.controller.specs.declared.sent.Sent.{Sent}
 use Rattle.controller.specs.Bus.{badTransfer}
 use Rattle.controller.specs.Answers.{numberOf, Row, Given}
 use Rattle.lines.specs.declared.reader.Line.{Line}
@@ -22,6 +23,11 @@ pub record Sayable (kind byte wait : ℕ) : Type 0 where
   pub transfer : badTransfer kind byte ≡ false
   pub is-byte : byte < 256
   pub is-wait : wait ≤ waitLimit
+
+-- Each of these transfers can be said by a line.
+unfoldable pub AllSayable : List Sent → Type 0
+AllSayable [] = Unit {0}
+AllSayable (t ∷ ts) = Sayable (t .kind) (t .byte) (t .wait) × AllSayable ts
 
 -- A text starts with the line of a transfer, and any text is after it.
 pub record Starts (text : List ℕ) : Type 0 where
