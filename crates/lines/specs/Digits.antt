@@ -39,6 +39,10 @@ decimal number = spelled (suc number) number
 unfoldable pub numberField : ℕ → ℕ → List ℕ
 numberField number end = decimal number ++ (end ∷ [])
 
+-- A byte as two upper-case hex digits.
+abbrev pub hexPair : ℕ → List ℕ
+hexPair byte = digit (byte / 16) ∷ digit (byte % 16) ∷ []
+
 -- A field: a byte as two upper-case hex digits, and a tab.
 unfoldable pub byteField : ℕ → List ℕ
-byteField byte = digit (byte / 16) ∷ digit (byte % 16) ∷ tab ∷ []
+byteField byte = hexPair byte ++ (tab ∷ [])
