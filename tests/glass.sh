@@ -26,7 +26,8 @@ done
 # Words that cannot be followed: what is allowed is told on standard error, and nothing is drawn.
 echo 'glass: allowed are COLUMNS LINES, 1 to 40 and 1 or 2 (16 2 where none are given), and --pbm or --cells' > "$work/allowed"
 : > "$work/empty"
-for words in '0 1' '41 2' '16 0' '16 3' '16' '20 2 1' '-1 2' '1a 2' '016 2' 'x' '--bmp' '--pbm --cellss' '--pbm --cells' '--cells --cells' '20 2 --cells --'; do
+for words in '0 1' '41 2' '16 0' '16 3' '16' '20 2 1' '-1 2' '1a 2' '016 2' 'x' '--bmp' '--pbm --cellss' '--pbm --cells' \
+    '--cells --cells' '20 2 --cells --'; do
     # shellcheck disable=SC2086
     timeout 20 "$program" $words < examples/hello.session > "$work/got" 2> "$work/errors"
     same "told of: $words" "$work/errors" "$work/allowed"

@@ -25,11 +25,17 @@ done
 awk 'BEGIN { for (i = 1; i < 9362; i++) printf "S\t00\t0\n"; printf "S\t00\t100\n" }' > "$work/full"
 [ "$(wc -c < "$work/full")" -eq 65536 ]
 count 'the full session has 65,536 bytes' $?
-awk 'BEGIN { print "no\tanswer\tbyte\tbusy"; for (i = 1; i < 9362; i++) print i "\t0\t80\t10000"; print "9362\t0\t80\t9900" }' > "$work/want"
+awk 'BEGIN {
+    print "no\tanswer\tbyte\tbusy"
+    for (i = 1; i < 9362; i++) print i "\t0\t80\t10000"
+    print "9362\t0\t80\t9900"
+}' > "$work/full_report"
 timeout 20 "$program" < "$work/full" > "$work/got"
-same '9,362 lines in 65,536 bytes'
+same '9,362 lines in 65,536 bytes' "$work/got" "$work/full_report"
+# A pipe is wanted here, and not the file.
+# shellcheck disable=SC2002
 cat "$work/full" | timeout 20 "$program" > "$work/got"
-same '9,362 lines through a pipe'
+same '9,362 lines through a pipe' "$work/got" "$work/full_report"
 
 # 4,096 lines of 16 bytes, the longest, in 65,536 bytes.
 awk 'BEGIN { for (i = 1; i <= 4096; i++) printf "D\t41\t4294967295\n" }' > "$work/wide"
@@ -68,8 +74,7 @@ fi
 closed_pipe "$work/full" "$program"
 
 # A pipe that is read slowly gets the whole report.
-awk 'BEGIN { print "no\tanswer\tbyte\tbusy"; for (i = 1; i < 9362; i++) print i "\t0\t80\t10000"; print "9362\t0\t80\t9900" }' > "$work/want"
 timeout 20 "$program" < "$work/full" | { sleep 0.3; cat; } > "$work/got"
-same 'a slow reader'
+same 'a slow reader' "$work/got" "$work/full_report"
 
 finish

@@ -2,7 +2,11 @@
 
 use std::fmt::{self, Display, Formatter};
 
-use crate::calls::{answer_of, value_of, Calls, RECORD_BYTES, WISH_BYTES};
+use crate::bytes::{BUSY_AT, RECORD_BYTES, WISH_BYTES, WISH_ZEROS};
+use crate::calls::{answer_of, value_of, Calls};
+use crate::model::{little_endian, Answer, Size};
+use crate::model::{BAD_LINE, BUSY, CROSSED, DONE, FIRST_HALF, NOT_A_WISH, NO_CELL};
+use crate::model::{OUT_OF_RANGE, STALE, TOO_SHORT, UNSOUND, WRONG_KIND, WRONG_LENGTH};
 
 /// The six functions, in the order of the header.
 #[derive(Clone, Copy, Debug, PartialEq, Eq)]
@@ -36,16 +40,25 @@ impl Function {
         }
     }
 
-    /// The answers that it can give. 9 is none of them: a counter on no cell makes the
-    /// record unsound, and 1 comes before 9.
-    pub fn answers(self) -> &'static [u8] {
+    /// The answers that it can give.
+    pub fn answers(self) -> &'static [Answer] {
         match self {
-            Function::Reset => &[0, 1, 2],
-            Function::Transfer => &[0, 1, 2, 3, 4, 5, 6, 7, 8],
-            Function::Picture => &[0, 1, 2, 10, 11],
-            Function::Plan => &[0, 2, 11, 13],
-            Function::WriteLine => &[0, 3, 11],
-            Function::ReadLine => &[0, 11, 12],
+            Function::Reset => &[DONE, UNSOUND, WRONG_LENGTH],
+            Function::Transfer => &[
+                DONE,
+                UNSOUND,
+                WRONG_LENGTH,
+                WRONG_KIND,
+                BUSY,
+                FIRST_HALF,
+                NO_CELL,
+                STALE,
+                CROSSED,
+            ],
+            Function::Picture => &[DONE, UNSOUND, WRONG_LENGTH, OUT_OF_RANGE, TOO_SHORT],
+            Function::Plan => &[DONE, WRONG_LENGTH, TOO_SHORT, NOT_A_WISH],
+            Function::WriteLine => &[DONE, WRONG_KIND, TOO_SHORT],
+            Function::ReadLine => &[DONE, TOO_SHORT, BAD_LINE],
         }
     }
 
@@ -95,7 +108,7 @@ impl Case {
                 calls.transfer(record, memory, one, two, third)
             }
             (Function::Picture, [record, memory, out]) => {
-                calls.picture(record, memory, one, two, third as u8, out)
+                calls.picture(record, memory, Size::new(one, two), third as u8, out)
             }
             (Function::Plan, [wish, marks, values, out]) => calls.plan(wish, marks, values, out),
             (Function::WriteLine, [out]) => calls.write_line(one, two, third, out),
@@ -193,13 +206,20 @@ fn fields(names: &[&str], bytes: &[u8]) -> String {
 
 fn record_shown(bytes: &[u8]) -> String {
     let named = fields(&RECORD_FIELDS, bytes);
-    let busy = u32::from_le_bytes([bytes[16], bytes[17], bytes[18], bytes[19]]);
-    let zeros = (hex(&bytes[15..16]), hex(&bytes[20..]));
+    let busy = little_endian(&bytes[BUSY_AT]);
+    let zeros = (
+        hex(&bytes[RECORD_FIELDS.len()..BUSY_AT.start]),
+        hex(&bytes[BUSY_AT.end..]),
+    );
     format!("{named} busy={busy} zeros {} and {}", zeros.0, zeros.1)
 }
 
 fn wish_shown(bytes: &[u8]) -> String {
-    format!("{} zeros {}", fields(&WISH_FIELDS, bytes), hex(&bytes[9..]))
+    format!(
+        "{} zeros {}",
+        fields(&WISH_FIELDS, bytes),
+        hex(&bytes[WISH_ZEROS])
+    )
 }
 
 /// Bytes in hex; equal ones in a row are counted.

@@ -8,11 +8,12 @@
 
 use std::fmt::{self, Display, Formatter};
 
-use crate::calls::{answer_of, bytes_of, transfers_of, value_of, wish_of, TRANSFER_BYTES};
+use crate::bytes::{record_bytes, wish_of};
+use crate::calls::{answer_of, value_of};
 use crate::case::{shown, Case, Function, Outcome};
-use crate::chance::Chance;
-use crate::model::{self, Counter, Half, Record, Wish, MEMORY, PLAN_BYTES, SHORT_TIME};
-use crate::random_calls::{sound_marks, sound_record, sound_wish, whole_memory};
+use crate::model::{self, Counter, Half, Record, Transfer, Wish};
+use crate::model::{MEMORY, PLAN_BYTES, SHORT_TIME, TRANSFER_BYTES};
+use crate::random::{sound_marks, sound_record, sound_wish, whole_memory, Chance};
 
 /// A start, a wish, and the places where the board stops.
 pub struct Trial {
@@ -54,9 +55,9 @@ impl Trial {
     ) -> Result<(), String> {
         let planned = call(&self.planning())?;
         let length = value_of(planned.returned) * TRANSFER_BYTES;
-        let plan = transfers_of(&planned.buffers[3][..length]);
+        let plan = model::transfers_of(&planned.buffers[3][..length]);
         let mut panel = Panel {
-            record: bytes_of(&self.start).to_vec(),
+            record: record_bytes(&self.start).to_vec(),
             memory: self.memory.clone(),
         };
         for &cut in &self.cuts {
@@ -84,7 +85,7 @@ impl Trial {
     /// One run of the plan, or the beginning of one.
     fn send(
         &self,
-        transfers: &[(u8, u8, u32)],
+        transfers: &[Transfer],
         panel: &mut Panel,
         call: &mut impl FnMut(&Case) -> Result<Outcome, String>,
     ) -> Result<(), String> {
@@ -111,9 +112,8 @@ impl Trial {
 
     /// "The panel then stands as wished", and the cells that are not named are spared.
     fn stands(&self, panel: &Panel) -> Result<(), String> {
-        let excepted = match (self.start.half, self.start.counter) {
-            (Half::DataWrite(_), Counter::Display(cell)) => Some(usize::from(cell)),
-            (Half::DataWrite(_), Counter::Pattern(cell)) => Some(80 + usize::from(cell)),
+        let excepted = match self.start.half {
+            Half::DataWrite(_) => Some(model::place(self.start.counter)),
             _ => None,
         };
         for cell in 0..MEMORY {
@@ -125,7 +125,7 @@ impl Trial {
             }
         }
         let wish = wish_of(&self.wish).ok_or("the planner took what is no wish")?;
-        let due = bytes_of(&wished_record(&wish, &panel.memory));
+        let due = record_bytes(&wished_record(&wish, &panel.memory));
         if panel.record != due {
             let (found, due) = (shown("record", &panel.record), shown("record", &due));
             return Err(format!("the record is not as wished:\n  {found}\n  {due}"));
@@ -149,14 +149,19 @@ pub fn wished_record(wish: &Wish, memory: &[u8]) -> Record {
         counter: Counter::Display(wish.cursor),
         register: memory[usize::from(wish.cursor)],
         fresh: true,
-        half: Half::None,
         busy: SHORT_TIME,
+        // No half, as after reset.
+        ..model::record_after_reset()
     }
 }
 
 impl Display for Trial {
     fn fmt(&self, to: &mut Formatter) -> fmt::Result {
-        writeln!(to, "  start {}", shown("record", &bytes_of(&self.start)))?;
+        writeln!(
+            to,
+            "  start {}",
+            shown("record", &record_bytes(&self.start))
+        )?;
         writeln!(to, "  start {}", shown("memory", &self.memory))?;
         writeln!(to, "  {}", shown("wish", &self.wish))?;
         writeln!(to, "  {}", shown("marks", &self.marks))?;

@@ -6,7 +6,8 @@
 
 use crate::calls::{Model, MODEL};
 use crate::font::SHAPES;
-use crate::model::{self, Counter, Half, Played, Record, DISPLAY_CELLS};
+use crate::model::{self, Counter, Half, Played, Record, Size, DISPLAY_CELLS};
+use crate::programs::Written;
 
 #[derive(Clone, Copy, Debug, PartialEq, Eq)]
 pub enum Form {
@@ -15,19 +16,21 @@ pub enum Form {
     Cells,
 }
 
-/// The size of a glass.
-#[derive(Clone, Copy, Debug, PartialEq, Eq)]
-pub struct Size {
-    pub columns: u8,
-    pub lines: u8,
+pub const FORMS: [Form; 3] = [Form::Text, Form::Bitmap, Form::Cells];
+
+impl Form {
+    /// The word that asks for it. Text need not be asked for.
+    pub fn word(self) -> Option<&'static str> {
+        match self {
+            Form::Text => None,
+            Form::Bitmap => Some("--pbm"),
+            Form::Cells => Some("--cells"),
+        }
+    }
 }
 
-/// What a program writes to its standard output and to its standard error.
-#[derive(Clone, Debug, Default, PartialEq, Eq)]
-pub struct Written {
-    pub output: Vec<u8>,
-    pub errors: Vec<u8>,
-}
+/// The size that need not be said.
+pub const USUAL: Size = Size::new(16, 2);
 
 /// One place of the drawn glass: a dot, or the gap between two characters or lines.
 #[derive(Clone, Copy, Debug, PartialEq, Eq)]
@@ -101,10 +104,9 @@ impl Drawing {
 
     /// "draws the panel as it then stands, cursor and blinking in the lit phase".
     fn glass(&self, played: &Played, size: Size) -> Grid {
-        let Size { columns, lines } = size;
-        let mut dots = vec![0; usize::from(lines) * 8 * usize::from(columns)];
         let (rec, mem) = (&played.rec, &played.mem);
-        let answer = (self.model.picture)(rec, mem, columns, lines, true, &mut dots, &SHAPES);
+        let mut dots = vec![0; model::picture_bytes(rec, size)];
+        let answer = (self.model.picture)(rec, mem, size, true, &mut dots, &SHAPES);
         assert_eq!(answer, model::DONE, "the size is that of a glass");
         (self.grid)(&dots, size)
     }
@@ -170,10 +172,11 @@ impl Drawing {
 /// lines.
 pub fn grid(picture: &[u8], size: Size) -> Grid {
     let columns = usize::from(size.columns);
+    let height = picture.len() / columns / usize::from(size.lines);
     let mut grid = Vec::new();
     for (row, bytes) in picture.chunks(columns).enumerate() {
         let characters: Vec<[Dot; 5]> = bytes.iter().map(|&byte| five_dots(byte)).collect();
-        if row > 0 && row % 8 == 0 {
+        if row > 0 && row % height == 0 {
             grid.push(vec![Dot::Gap; columns * 6 - 1]);
         }
         grid.push(characters.join(&Dot::Gap));

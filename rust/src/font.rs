@@ -3,7 +3,7 @@
 
 use std::sync::LazyLock;
 
-use crate::model::FONT;
+use crate::model::{FONT, SHAPE_ROWS};
 
 const SHEET: &str = include_str!("../../crates/font_sheet/stdout");
 
@@ -21,7 +21,7 @@ fn read_sheet(sheet: &str) -> [u8; FONT] {
         });
         for (row, line) in lines.enumerate() {
             for (&code, dots) in codes.iter().zip(line) {
-                shapes[code * 8 + row] = five_dots(dots);
+                shapes[code * SHAPE_ROWS + row] = five_dots(dots);
             }
         }
     }

@@ -1,9 +1,9 @@
 //! The outside checks of the bench Yaropesk: an independent model, written from its
 //! documents alone, the proved library behind safe functions, and what compares them.
 
+pub mod bytes;
 pub mod calls;
 pub mod case;
-pub mod chance;
 pub mod demand;
 pub mod drawing;
 pub mod font;
@@ -11,8 +11,6 @@ pub mod library;
 pub mod model;
 pub mod options;
 pub mod programs;
-pub mod random_calls;
-pub mod random_lines;
-pub mod random_texts;
+pub mod random;
+pub mod tally;
 pub mod wrong;
-pub mod wrong_drawings;

@@ -5,6 +5,7 @@
 //! that is written overlaps no other.
 
 use crate::calls::Calls;
+use crate::model::Size;
 
 extern "C" {
     fn yaropesk_reset(
@@ -94,15 +95,7 @@ impl Calls for Library {
     }
 
     #[inline]
-    fn picture(
-        &self,
-        record: &[u8],
-        memory: &[u8],
-        columns: u8,
-        lines: u8,
-        lit: u8,
-        out: &mut [u8],
-    ) -> u32 {
+    fn picture(&self, record: &[u8], memory: &[u8], size: Size, lit: u8, out: &mut [u8]) -> u32 {
         let out_length = out.len();
         // SAFETY: the output overlaps no other slice, and each has its own length.
         unsafe {
@@ -111,8 +104,8 @@ impl Calls for Library {
                 record.len(),
                 memory.as_ptr(),
                 memory.len(),
-                columns,
-                lines,
+                size.columns,
+                size.lines,
                 lit,
                 out.as_mut_ptr(),
                 out_length,

@@ -44,6 +44,14 @@ impl<M: Copy> Options<M> {
         exit(2)
     }
 
+    /// The program that is named first, before at most two numbers.
+    pub fn program(&self) -> &str {
+        match &self.plain[..] {
+            [program] | [program, _] | [program, _, _] => program,
+            _ => self.refuse(),
+        }
+    }
+
     /// The number in this place of the command line, if one stands there.
     pub fn number(&self, at: usize, otherwise: u64) -> u64 {
         match self.plain.get(at) {

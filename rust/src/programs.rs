@@ -4,19 +4,29 @@ use std::io::{Read, Write};
 use std::process::{exit, Command, Stdio};
 use std::thread;
 
-/// What a program wrote, and how it ended if not well.
-#[derive(Debug, PartialEq, Eq)]
-pub struct Ran {
+/// What a program writes to its standard output and to its standard error.
+#[derive(Debug, Default, PartialEq, Eq)]
+pub struct Written {
     pub output: Vec<u8>,
     pub errors: Vec<u8>,
+}
+
+/// What a program wrote, and how it ended if not well.
+pub struct Ran {
+    pub written: Written,
     pub ended: Option<String>,
 }
 
 impl Ran {
+    /// Did it write what was due, and end well?
+    pub fn is(&self, due: &Written) -> bool {
+        self.written == *due && self.ended.is_none()
+    }
+
     /// Shows what it wrote to standard error and how it ended, where that is not well.
     pub fn show_faults(&self) {
-        if !self.errors.is_empty() {
-            show("the program's standard error", &self.errors);
+        if !self.written.errors.is_empty() {
+            show("the program's standard error", &self.written.errors);
         }
         if let Some(ended) = &self.ended {
             println!("the program ended with {ended}");
@@ -39,25 +49,21 @@ pub fn run(program: &str, words: &[String], text: &[u8]) -> Ran {
     let mut input = child.stdin.take().expect("standard input is piped");
     let mut output = child.stdout.take().expect("standard output is piped");
     let mut error = child.stderr.take().expect("standard error is piped");
-    let (mut printed, mut errors) = (Vec::new(), Vec::new());
+    let mut written = Written::default();
     thread::scope(|scope| {
         // The program may stop reading before the end: a broken pipe is no fault.
         scope.spawn(move || {
             let _ = input.write_all(text);
         });
-        scope.spawn(|| error.read_to_end(&mut errors));
-        let _ = output.read_to_end(&mut printed);
+        scope.spawn(|| error.read_to_end(&mut written.errors));
+        let _ = output.read_to_end(&mut written.output);
     });
     let ended = match child.wait() {
         Ok(status) if status.success() => None,
         Ok(status) => Some(status.to_string()),
         Err(error) => Some(error.to_string()),
     };
-    Ran {
-        output: printed,
-        errors,
-        ended,
-    }
+    Ran { written, ended }
 }
 
 /// The lines of a text, each with its newline.

@@ -2,10 +2,10 @@
 //! found out.
 
 use yaropesk_model::calls::{Calls, Model, Planner, MODEL};
-use yaropesk_model::chance::Chance;
 use yaropesk_model::demand::Trial;
 use yaropesk_model::library::Library;
-use yaropesk_model::model::{self, Wish};
+use yaropesk_model::model::{self, Answer, Wish, TRANSFER_BYTES};
+use yaropesk_model::random::Chance;
 use yaropesk_model::wrong;
 
 /// What went wrong in the first of fifty trials in which something did.
@@ -23,16 +23,16 @@ fn the_library_and_the_model_keep_it() {
 }
 
 /// After the opening every wait is 1, so that the board does not wait for Home.
-fn hurried(wish: &Wish, marks: &[u8], values: &[u8], out: &mut [u8]) -> (u8, usize) {
+fn hurried(wish: &Wish, marks: &[u8], values: &[u8], out: &mut [u8]) -> (Answer, usize) {
     let (answer, count) = model::plan(wish, marks, values, out);
-    for record in out.chunks_exact_mut(6).take(count).skip(5) {
-        record[2..].copy_from_slice(&[1, 0, 0, 0]);
+    for record in out.chunks_exact_mut(TRANSFER_BYTES).take(count).skip(5) {
+        record[2..].copy_from_slice(&1u32.to_le_bytes());
     }
     (answer, count)
 }
 
 /// The cursor is forgotten: the last address set is that of cell 0.
-fn cursor_forgotten(wish: &Wish, marks: &[u8], values: &[u8], out: &mut [u8]) -> (u8, usize) {
+fn cursor_forgotten(wish: &Wish, marks: &[u8], values: &[u8], out: &mut [u8]) -> (Answer, usize) {
     let wish = Wish { cursor: 0, ..*wish };
     model::plan(&wish, marks, values, out)
 }

@@ -3,25 +3,22 @@
 use std::fs;
 use std::path::{Path, PathBuf};
 
-use yaropesk_model::drawing::{Form, Size, DRAWING};
+use yaropesk_model::drawing::{Form, DRAWING, FORMS, USUAL};
+use yaropesk_model::model::Size;
 
 /// The size and the form that the words ask for.
 fn wanted<'a>(words: impl Iterator<Item = &'a str>) -> (Size, Form) {
     let mut form = Form::Text;
     let mut numbers = Vec::new();
     for word in words {
-        match word {
-            "--pbm" => form = Form::Bitmap,
-            "--cells" => form = Form::Cells,
-            number => numbers.push(number.parse().expect("a number")),
+        match FORMS.into_iter().find(|form| form.word() == Some(word)) {
+            Some(asked) => form = asked,
+            None => numbers.push(word.parse().expect("a number")),
         }
     }
     let size = match numbers[..] {
-        [columns, lines] => Size { columns, lines },
-        _ => Size {
-            columns: 16,
-            lines: 2,
-        },
+        [columns, lines] => Size::new(columns, lines),
+        _ => USUAL,
     };
     (size, form)
 }

@@ -1,9 +1,10 @@
 pub mod Choice
+pub mod Answers
 pub mod Cells
 pub mod Record
 pub mod Instruction
+pub mod Completed
 pub mod Kept
 pub mod Taken
 pub mod Memory
-pub mod Completed
-pub mod Answers
+pub mod Sent

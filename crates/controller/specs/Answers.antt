@@ -7,7 +7,9 @@ use mathlib.Core.Path.{_≡_}
 use Prim.Native.Nat.{ℕ}
 use lib.Dec.{eqb}
 use Rattle.controller.specs.declared.answers.Answer.{Answer}
-use Rattle.controller.specs.declared.answers.Answer.the-variants.{Done, Unsound, NotWhole, BadTransfer, Busy, FirstHalf, NoCell, StaleRead, CrossedHalves, CounterOff, BadSize, OutputShort, BadLine, NotWish}
+use Rattle.controller.specs.declared.answers.Answer.the-variants.{Done, Unsound, NotWhole, BadTransfer, Busy, FirstHalf}
+use Rattle.controller.specs.declared.answers.Answer.the-variants.{NoCell, StaleRead, CrossedHalves, CounterOff, BadSize}
+use Rattle.controller.specs.declared.answers.Answer.the-variants.{OutputShort, BadLine, NotWish}
 
 -- The number of each answer.
 abbrev pub numberOf : Answer → ℕ

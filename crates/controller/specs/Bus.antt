@@ -29,7 +29,7 @@ unfoldable pub badTransfer : ℕ → ℕ → Bool
 badTransfer kind byte = ltb 3 kind || (leb 2 kind && ltb 0 byte)
 
 -- No half is waiting.
-unfoldable pub noHalf : Half → Bool
+abbrev pub noHalf : Half → Bool
 noHalf Empty = true
 noHalf (InstructionWrite high) = false
 noHalf (DataWrite high) = false
@@ -57,7 +57,8 @@ decided rec mem kind byte wait =
 
 -- What reset comes to: display cells 20h and the record above, or 2 and the record it was given.
 unfoldable pub resetDecided : Record → List ℕ → Decision
-resetDecided rec mem = cond (whole mem) (record { answer = Done; byte = 0; rec = resetRecord; effect = Blank }) (refused NotWhole rec)
+resetDecided rec mem =
+    cond (whole mem) (record { answer = Done; byte = 0; rec = resetRecord; effect = Blank }) (refused NotWhole rec)
 
 -- What `transfer` and `reset` promise of a decision: what is returned, its number in the table, and every byte of the memory.
 pub record Performs (d : Decision) (before : List ℕ) (returned : Outcome) (after : List ℕ) : Type 0 where
@@ -65,8 +66,8 @@ pub record Performs (d : Decision) (before : List ℕ) (returned : Outcome) (aft
   pub number : numberOf (returned .answer) ≡ numberOf (d .answer)
   pub memory : after ≡ performed (d .effect) before
 
--- What `transfer_in` promises of a decision: what is told, its number in the table, the record left in the loan, and every byte of the
--- memory.
+-- What `transfer_in` promises of a decision: what is told, its number in the table, the record left in the loan, and every byte
+-- of the memory.
 pub record PerformsIn (d : Decision) (before : List ℕ) (returned : Told) (lent : Record) (after : List ℕ) : Type 0 where
   pub told : returned ≡ record { answer = d .answer; byte = d .byte }
   pub number : numberOf (returned .answer) ≡ numberOf (d .answer)

@@ -44,7 +44,8 @@ statusRead wait = record { kind = 2; byte = 0x00; wait = wait }
 abbrev pub P1 : Type 0
 P1 =
     (rec : Record) (mem : List ℕ) → length mem ≡ 144
-    → (decidedOf (afterReset rec mem) (statusRead 9999) .byte ≡ 0x80) × (decidedOf (afterReset rec mem) (statusRead 10000) .byte ≡ 0x00)
+    → (decidedOf (afterReset rec mem) (statusRead 9999) .byte ≡ 0x80)
+    × (decidedOf (afterReset rec mem) (statusRead 10000) .byte ≡ 0x00)
 
 -- A data write with I/D=1 leads from this counter, at this address, to that one.
 abbrev pub WriteLeads : Bool → Counter → ℕ → Counter → ℕ → Type 0
@@ -64,12 +65,14 @@ P3 = WriteLeads true (Display 79) 0x67 (Display 0) 0x00 × WriteLeads false (Dis
 -- This instruction is answered so, with this N.
 abbrev pub Answers : Bool → ℕ → Answer → Type 0
 Answers n byte answer =
-    (rec : Record) (mem : List ℕ) (wait : ℕ) → Waits rec mem true Empty wait → rec .function .n ≡ n → decided rec mem 0 byte wait .answer ≡ answer
+    (rec : Record) (mem : List ℕ) (wait : ℕ) → Waits rec mem true Empty wait → rec .function .n ≡ n
+    → decided rec mem 0 byte wait .answer ≡ answer
 
 -- P4: N=1: A7h done, A8h and BFh answer 6, E7h done, E8h answers 6. N=0: CFh done, D0h answers 6.
 abbrev pub P4 : Type 0
 P4 =
-    Answers true 0xA7 Done × Answers true 0xA8 NoCell × Answers true 0xBF NoCell × Answers true 0xE7 Done × Answers true 0xE8 NoCell
+    Answers true 0xA7 Done × Answers true 0xA8 NoCell × Answers true 0xBF NoCell × Answers true 0xE7 Done
+    × Answers true 0xE8 NoCell
     × Answers false 0xCF Done × Answers false 0xD0 NoCell
 
 -- P6: pattern counter 3Fh, write, I/D=1: 00h.
@@ -86,7 +89,8 @@ P8 =
     (rec : Record) (mem : List ℕ) (wait later : ℕ) → Waits rec mem false Empty wait
     → (numberOf (decidedOf (record { rec = rec; mem = mem }) (dataWrite 0x40 wait) .answer) ≡ 5)
     × (numberOf (decidedOf (ran (record { rec = rec; mem = mem }) (dataWrite 0x40 wait ∷ [])) (dataWrite 0x10 later) .answer) ≡ 0)
-    × (getD (ran (record { rec = rec; mem = mem }) (dataWrite 0x40 wait ∷ dataWrite 0x10 later ∷ []) .mem) (placeOf (rec .counter)) 0 ≡ 0x41)
+    × (getD (ran (record { rec = rec; mem = mem }) (dataWrite 0x40 wait ∷ dataWrite 0x10 later ∷ []) .mem) (placeOf (rec .counter)) 0
+    ≡ 0x41)
 
 -- P9: half instruction 0h waiting, then 30h: Home, answer 0.
 abbrev pub P9 : Type 0

@@ -19,7 +19,7 @@ placeOf (Display cell) = cell
 placeOf (Pattern cell) = 80 + cell
 
 -- The counter's cell, in whichever memory.
-unfoldable pub cellOf : Counter → ℕ
+abbrev pub cellOf : Counter → ℕ
 cellOf (Display cell) = cell
 cellOf (Pattern cell) = cell
 
@@ -43,7 +43,7 @@ stepped up (Display cell) = Display (wrapped 80 up cell)
 stepped up (Pattern cell) = Pattern (wrapped 64 up cell)
 
 -- A line's length, L: 80 cells with N=0, 40 with N=1.
-unfoldable pub lineLength : Bool → ℕ
+abbrev pub lineLength : Bool → ℕ
 lineLength false = 80
 lineLength true = 40
 
@@ -65,15 +65,15 @@ Within (Cell cell) = cell < 80
 Within Outside = Unit {0}
 
 -- ACG to its pattern cell: an address of six bits.
-unfoldable pub cellOfAcg : Acg → ℕ
+abbrev pub cellOfAcg : Acg → ℕ
 cellOfAcg acg = acg .0 % 64
 
 -- A pattern cell to its ACG.
-unfoldable pub acgOfCell : ℕ → Acg
+abbrev pub acgOfCell : ℕ → Acg
 acgOfCell cell = record { 0 = cell }
 
--- The instruction that sets the counter to this cell: 80h and the cell's ADD, or 40h and its ACG. A number past the last cell of its
--- memory is counted on from the first.
+-- The instruction that sets the counter to this cell: 80h and the cell's ADD, or 40h and its ACG. A number past the last cell of
+-- its memory is counted on from the first.
 unfoldable pub addressSet : Bool → Counter → ℕ
 addressSet n (Display cell) = 0x80 + addOfCell n (cell % 80) .0
 addressSet n (Pattern cell) = 0x40 + acgOfCell (cell % 64) .0

@@ -14,7 +14,9 @@ use Rattle.controller.specs.declared.decision.Effect.the-variants.{Keep,
 use Rattle.controller.specs.declared.execute.Transfer.{Transfer}
 use Rattle.controller.specs.declared.execute.Transfer.the-variants.{Instruct, Write, Status, Read}
 use Rattle.controller.specs.declared.instruction.Instruction.{Instruction}
-use Rattle.controller.specs.declared.instruction.Instruction.the-variants.{Nothing, Clear, Home, SetEntry, SetControl, MoveCursor, ShiftDisplay, SetFunction, PatternAddress, DisplayAddress}
+use Rattle.controller.specs.declared.instruction.Instruction.the-variants.{Nothing, Clear, Home, SetEntry, SetControl}
+use Rattle.controller.specs.declared.instruction.Instruction.the-variants.{MoveCursor, ShiftDisplay, SetFunction}
+use Rattle.controller.specs.declared.instruction.Instruction.the-variants.{PatternAddress, DisplayAddress}
 use Rattle.controller.specs.declared.«record».Record.{Record}
 use Rattle.controller.specs.Cells.{byteUnder, placeOf, wrapped, stepped, cellOfAdd, cellOfAcg, addressOf}
 use Rattle.controller.specs.Decision.{done, refused}
@@ -90,7 +92,8 @@ unfoldable pub written : ℕ → Record → Decision
 written byte rec =
     done shortTime (Store (placeOf (rec .counter)) byte) (withRegister byte false (carried (rec .counter) (movedOn rec)))
 
--- Data read: returns the byte, moves the counter, loads the register from the new cell, fresh; never shifts. A stale one is answered 7.
+-- Data read: returns the byte, moves the counter, loads the register from the new cell, fresh; never shifts. A stale one is
+-- answered 7.
 unfoldable pub readOut : List ℕ → ℕ → Record → Decision
 readOut mem byte rec =
     record {

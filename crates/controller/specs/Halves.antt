@@ -20,7 +20,10 @@ use Rattle.controller.specs.Record.{withHalf}
 -- A transfer's kind: 0 instruction write, 1 data write, 2 status read, 3 data read. A read's byte is taken as it begins.
 unfoldable pub begun : ℕ → ℕ → Record → Transfer
 begun kind byte rec =
-    cond (eqb kind 0) (Instruct byte) (cond (eqb kind 1) (Write byte) (cond (eqb kind 2) (Status (statusOf rec)) (Read (rec .reg))))
+    cond (eqb kind 0) (Instruct byte)
+    (cond (eqb kind 1) (Write byte)
+    (cond (eqb kind 2) (Status (statusOf rec))
+    (Read (rec .reg))))
 
 -- Bits 7 to 4 with zeros below.
 abbrev pub highHalf : ℕ → ℕ

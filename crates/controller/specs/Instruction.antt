@@ -4,7 +4,9 @@ use mathlib.Core.Bool.{Bool, cond}
 use Prim.Native.Nat.{ℕ, _-_, _/_, _%_}
 use lib.Dec.{leb, eqb}
 use Rattle.controller.specs.declared.instruction.Instruction.{Instruction}
-use Rattle.controller.specs.declared.instruction.Instruction.the-variants.{Nothing, Clear, Home, SetEntry, SetControl, MoveCursor, ShiftDisplay, SetFunction, PatternAddress, DisplayAddress}
+use Rattle.controller.specs.declared.instruction.Instruction.the-variants.{Nothing, Clear, Home, SetEntry, SetControl}
+use Rattle.controller.specs.declared.instruction.Instruction.the-variants.{MoveCursor, ShiftDisplay, SetFunction}
+use Rattle.controller.specs.declared.instruction.Instruction.the-variants.{PatternAddress, DisplayAddress}
 
 -- The bit that is worth this much: 80h for bit 7, 01h for bit 0.
 unfoldable pub bit : ℕ → ℕ → Bool

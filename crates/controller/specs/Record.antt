@@ -33,7 +33,8 @@ unfoldable pub sound : Record → Bool
 sound rec =
     ltb (rec .shift) 80 && (onCell (rec .counter) && (leb (rec .busy) resetTime && halfSound (rec .wide) (rec .busy) (rec .half)))
 
--- The record that reset leaves: width 8, N=F=D=C=B=S=0, I/D=1, shift 0, counter display cell 0, register 00h stale, no half, busy 10,000.
+-- The record that reset leaves: width 8, N=F=D=C=B=S=0, I/D=1, shift 0, counter display cell 0, register 00h stale, no half,
+-- busy 10,000.
 unfoldable pub resetRecord : Record
 resetRecord =
     record {

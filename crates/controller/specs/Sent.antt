@@ -2,6 +2,7 @@
 -- Assumes nothing.
 use mathlib.Core.List.{List, [], _∷_}
 use Prim.Native.Nat.{ℕ, _+_, _*_, _/_, _%_}
+use lib.ListN.{getD}
 use Rattle.controller.specs.declared.sent.Sent.{Sent}
 
 -- A number as four bytes, little-endian.
@@ -15,3 +16,12 @@ numberFrom first second third fourth = first + second * 256 + third * 65536 + fo
 -- Records are six bytes: kind, byte, wait little-endian.
 abbrev pub sixBytes : Sent → List ℕ
 sixBytes t = t .kind ∷ t .byte ∷ littleEndian (t .wait)
+
+-- The record of six bytes at the start of a buffer, read as a transfer: kind, byte, wait little-endian.
+abbrev pub sentAt : List ℕ → Sent
+sentAt bytes =
+    record {
+      kind = getD bytes 0 0;
+      byte = getD bytes 1 0;
+      wait = numberFrom (getD bytes 2 0) (getD bytes 3 0) (getD bytes 4 0) (getD bytes 5 0);
+    }

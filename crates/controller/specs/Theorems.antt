@@ -40,7 +40,8 @@ AddressesMatch =
 -- A transfer keeps a sound record sound.
 abbrev pub TransferKeepsSound : Type 0
 TransferKeepsSound =
-    (rec : Record) (mem : List ℕ) (kind byte wait : ℕ) → byte < 256 → sound rec ≡ true → sound (decided rec mem kind byte wait .rec) ≡ true
+    (rec : Record) (mem : List ℕ) (kind byte wait : ℕ) → byte < 256 → sound rec ≡ true
+    → sound (decided rec mem kind byte wait .rec) ≡ true
 
 -- Reset makes a record sound.
 abbrev pub ResetMakesSound : Type 0
@@ -50,7 +51,8 @@ ResetMakesSound = (rec : Record) (mem : List ℕ) → whole mem ≡ true → sou
 abbrev pub EffectsFit : Type 0
 EffectsFit =
     (rec : Record) (mem : List ℕ)
-    → ((kind byte wait : ℕ) → byte < 256 → Fits (decided rec mem kind byte wait .effect) mem) × Fits (resetDecided rec mem .effect) mem
+    → ((kind byte wait : ℕ) → byte < 256 → Fits (decided rec mem kind byte wait .effect) mem)
+    × Fits (resetDecided rec mem .effect) mem
 
 -- What a refusal leaves of the record. 4: only busy reduced. 6: wait counted, half gone, rest as found. The others: all as found.
 unfoldable pub left : Answer → ℕ → Record → Record
@@ -67,7 +69,8 @@ TransferRefusals = (rec : Record) (mem : List ℕ) (kind byte wait : ℕ) → Le
 
 -- A refused reset returns the record it was given and leaves the memory as found.
 abbrev pub ResetRefusals : Type 0
-ResetRefusals = (rec : Record) (mem : List ℕ) → isRefusal (resetDecided rec mem .answer) ≡ true → resetDecided rec mem ≡ refused NotWhole rec
+ResetRefusals =
+    (rec : Record) (mem : List ℕ) → isRefusal (resetDecided rec mem .answer) ≡ true → resetDecided rec mem ≡ refused NotWhole rec
 
 -- Transfer gives each number exactly where its row applies and none before it in the order.
 abbrev pub TransferAnswers : Type 0
@@ -95,7 +98,8 @@ OneReset =
 abbrev pub OneTransferIn : Type 0
 OneTransferIn =
     (rec : Record) (mem : List ℕ) (kind byte wait : ℕ) (a b : Told) (u v : Record) (x y : List ℕ)
-    → PerformsIn (decided rec mem kind byte wait) mem a u x → PerformsIn (decided rec mem kind byte wait) mem b v y → (a ≡ b) × (u ≡ v) × (x ≡ y)
+    → PerformsIn (decided rec mem kind byte wait) mem a u x → PerformsIn (decided rec mem kind byte wait) mem b v y
+    → (a ≡ b) × (u ≡ v) × (x ≡ y)
 
 -- No second answer of `is_sound` fits: two values that are both what was promised are one.
 abbrev pub OneSoundness : Type 0

@@ -4,7 +4,8 @@ ghost use mathlib.Core.Bool.{true};
 ghost use mathlib.Core.Path.{_≡_};
 ghost use Prim.Native.Nat.{_<_, _≤_};
 ghost use lib.ListN.{length};
-ghost use Rattle.controller.specs.Cells.{acgOfCell, addOfCell, addressOf, addressSet, byteUnder, cellOf, cellOfAcg, cellOfAdd, lineLength, onCell, placeOf, stepped, wrapped};
+ghost use Rattle.controller.specs.Cells.{acgOfCell, addOfCell, addressOf, addressSet, byteUnder, cellOf, cellOfAcg};
+ghost use Rattle.controller.specs.Cells.{cellOfAdd, lineLength, onCell, placeOf, stepped, wrapped};
 
 // A display address, as the bus carries it. It is never read as a pattern address.
 pub struct Add(pub u8);

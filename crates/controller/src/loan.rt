@@ -1,5 +1,4 @@
 // The same transfer on a record that is lent, for a caller who keeps the record in a place of its own.
-ghost use mathlib.Core.Path.{_≡_};
 ghost use Rattle.controller.specs.Bus.{PerformsIn, decided};
 use crate::answers::Answer;
 use crate::bus::transfer;
@@ -13,7 +12,9 @@ pub struct Told {
 
 // One bus transfer on a record that is lent: the new record is left in the loan.
 pub fn transfer_in(rec: &mut Record, memory: &mut [u8], kind: u8, byte: u8, wait: u32) -> Told
-    ensures { λ r. ⌜ PerformsIn (decided (now (rec .entry)) (now (memory .entry)) kind byte wait) (now (memory .entry)) r (now (rec .exit)) (now (memory .exit)) ⌝ }
+    ensures { λ r.
+        ⌜ PerformsIn (decided (now (rec .entry)) (now (memory .entry)) kind byte wait) (now (memory .entry)) r (now (rec .exit))
+        (now (memory .exit)) ⌝ }
 {
     let outcome = transfer(*rec, memory, kind, byte, wait);
     *rec = outcome.rec;

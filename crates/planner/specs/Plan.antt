@@ -2,7 +2,7 @@
 -- Assumes nothing.
 use mathlib.Core.Bool.{Bool, true, false, cond, _&&_}
 use mathlib.Core.List.{List, [], _∷_, _++_}
-use Prim.Native.Nat.{ℕ, zero, suc, _+_, _-_, _*_, _/_, _%_}
+use Prim.Native.Nat.{ℕ, zero, suc, _+_, _-_}
 use lib.Dec.{ltb, eqb}
 use lib.ListN.{getD, replicate}
 use Rattle.controller.specs.Cells.{addressSet}
@@ -62,7 +62,8 @@ addressByte n place = addressSet n (counterAt place)
 unfoldable pub cell : Bool → List ℕ → List ℕ → ℕ → List Command
 cell n marks values place =
     cond (marked marks place)
-    (cond (follows marks place) (write (getD values place 0) ∷ []) (instruction (addressByte n place) ∷ write (getD values place 0) ∷ []))
+    (cond (follows marks place) (write (getD values place 0) ∷ [])
+    (instruction (addressByte n place) ∷ write (getD values place 0) ∷ []))
     []
 
 -- The marked cells below this place, rising: display cells, then pattern cells.

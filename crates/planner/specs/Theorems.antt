@@ -18,7 +18,7 @@ use Rattle.planner.specs.declared.call.Planned.{Planned}
 use Rattle.planner.specs.declared.wish.Wish.{Wish}
 use Rattle.planner.specs.Call.{replyTo, wanted, Plans}
 use Rattle.planner.specs.Demand.{Bytes, excepted}
-use Rattle.controller.specs.Sent.{numberFrom}
+use Rattle.controller.specs.Sent.{sentAt}
 use Rattle.planner.specs.Plan.{single, planOf}
 use Rattle.planner.specs.Wish.{isWish}
 
@@ -52,8 +52,8 @@ NotWishes =
 -- A refused call plans nothing and leaves the buffer as found.
 abbrev pub PlanRefusals : Type 0
 PlanRefusals =
-    (wish : Wish) (marks values out : List ℕ) (returned : Planned) (after : List ℕ) → Plans (replyTo wish marks values out) out returned after
-    → (numberOf (returned .answer) ≡ 0 → ⊥) → (returned .count ≡ 0) × (after ≡ out)
+    (wish : Wish) (marks values out : List ℕ) (returned : Planned) (after : List ℕ)
+    → Plans (replyTo wish marks values out) out returned after → (numberOf (returned .answer) ≡ 0 → ⊥) → (returned .count ≡ 0) × (after ≡ out)
 
 -- No second answer fits.
 abbrev pub OnePlan : Type 0
@@ -100,23 +100,15 @@ abbrev pub P12 : Type 0
 P12 =
     (values : List ℕ)
     → planOf plainWish (all 0) values
-    ≡ single 0x30 15000 ∷ single 0x30 4100 ∷ single 0x30 100 ∷ single 0x20 100 ∷ single 0x20 100 ∷ single 0x80 1 ∷ single 0x00 40 ∷ single 0x80 1 ∷ single 0x00 40
-    ∷ single 0x60 1 ∷ single 0x00 40 ∷ single 0x20 1 ∷ single 0x00 1640 ∷ single 0x60 1 ∷ single 0x80 40 ∷ single 0x00 1 ∷ single 0x00 40 ∷ single 0xC0 1 ∷ []
+    ≡ single 0x30 15000 ∷ single 0x30 4100 ∷ single 0x30 100 ∷ single 0x20 100 ∷ single 0x20 100 ∷ single 0x80 1
+    ∷ single 0x00 40 ∷ single 0x80 1 ∷ single 0x00 40 ∷ single 0x60 1 ∷ single 0x00 40 ∷ single 0x20 1
+    ∷ single 0x00 1640 ∷ single 0x60 1 ∷ single 0x80 40 ∷ single 0x00 1 ∷ single 0x00 40 ∷ single 0xC0 1 ∷ []
 
 -- The exception of demand 3 is needed: a data write half sent before, and the plan that names no cell alters its cell.
 abbrev pub ExceptionNeeded : Type 0
 ExceptionNeeded =
     (start : State) × (sound (start .rec) ≡ true) × (length (start .mem) ≡ 144) × (excepted (start .rec) 0 ≡ true)
     × (getD (start .mem) 0 0 ≡ 0x20) × (getD (ran start (planOf plainWish (all 0) (all 0)) .mem) 0 0 ≡ 0x43)
-
--- The record of six bytes at the start of a buffer, read as a transfer: kind, byte, wait little-endian.
-abbrev pub sentAt : List ℕ → Sent
-sentAt bytes =
-    record {
-      kind = getD bytes 0 0;
-      byte = getD bytes 1 0;
-      wait = numberFrom (getD bytes 2 0) (getD bytes 3 0) (getD bytes 4 0) (getD bytes 5 0);
-    }
 
 -- The first records of a buffer, read as transfers.
 unfoldable pub readBack : ℕ → List ℕ → List Sent

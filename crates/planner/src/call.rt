@@ -3,7 +3,7 @@ ghost use mathlib.Core.Bool.{true};
 ghost use mathlib.Core.Path.{_≡_};
 ghost use Prim.Native.Nat.{_≤_};
 ghost use lib.ListN.{length};
-ghost use Rattle.planner.specs.Call.{Plans, laidOut, replyTo, wanted};
+ghost use Rattle.planner.specs.Call.{Plans, laidOut, replyTo};
 ghost use Rattle.planner.specs.Plan.{planOf};
 ghost use Rattle.planner.specs.Wish.{isWish};
 use crate::commands::end;
@@ -30,8 +30,11 @@ fn turn_down(answer: Answer) -> Planned
 
 // The plan of a wish, into a buffer that is long enough: how many records it has.
 fn write_plan(wish: Wish, marks: &[u8], values: &[u8], out: &mut [u8]) -> usize
-    requires { ⌜ (isWish wish (now marks) ≡ true) × (length (now marks) ≡ 144) × (length (now values) ≡ 144) × (2808 ≤ length (now out)) ⌝ }
-    ensures { λ r. ⌜ (r ≡ length (planOf wish (now (marks .entry)) (now (values .entry)))) × (now (out .exit) ≡ laidOut (planOf wish (now (marks .entry)) (now (values .entry))) (now (out .entry))) ⌝ }
+    requires { ⌜ (isWish wish (now marks) ≡ true) × (length (now marks) ≡ 144) × (length (now values) ≡ 144)
+        × (2808 ≤ length (now out)) ⌝ }
+    ensures { λ r.
+        let plan = planOf wish (now (marks .entry)) (now (values .entry)) in
+        ⌜ (r ≡ length plan) × (now (out .exit) ≡ laidOut plan (now (out .entry))) ⌝ }
 {
     let opened = open(out);
     let ready = set_up(out, opened, wish);
@@ -43,7 +46,9 @@ fn write_plan(wish: Wish, marks: &[u8], values: &[u8], out: &mut [u8]) -> usize
 
 // The plan for a wish: marks say which of the 144 cells to write, values what to write there. Six bytes a record.
 pub fn plan(wish: Wish, marks: &[u8], values: &[u8], out: &mut [u8]) -> Planned
-    ensures { λ r. ⌜ Plans (replyTo wish (now (marks .entry)) (now (values .entry)) (now (out .entry))) (now (out .entry)) r (now (out .exit)) ⌝ }
+    ensures { λ r.
+        ⌜ Plans (replyTo wish (now (marks .entry)) (now (values .entry)) (now (out .entry))) (now (out .entry)) r
+        (now (out .exit)) ⌝ }
 {
     if !is_whole(marks) {
         return turn_down(Answer::NotWhole);

@@ -1,11 +1,11 @@
 // The commands of a plan, in their order.
-ghost use mathlib.Core.List.{_∷_, []};
 ghost use mathlib.Core.Path.{_≡_};
 ghost use Prim.Native.Nat.{_+_, _*_, _<_, _≤_};
 ghost use lib.ListN.{length, replicate};
 ghost use lib.Seq.{sets};
 ghost use Rattle.planner.specs.Pen.{Wrote};
-ghost use Rattle.planner.specs.Plan.{addressByte, cell, cellsBelow, counterAt, encoded, ending, instruction, opening, setUp, worth};
+ghost use Rattle.planner.specs.Plan.{addressByte, cell, cellsBelow, counterAt, encoded, ending, instruction, opening};
+ghost use Rattle.planner.specs.Plan.{setUp, single, worth};
 use crate::pen::Pen;
 use crate::pen::put;
 use crate::pen::send;
@@ -16,17 +16,29 @@ use controller::Control;
 use controller::Counter;
 use controller::Entry;
 use controller::Function;
+use controller::Sent;
 use controller::address_set;
+
+// An instruction byte as it is sent, alone.
+fn sent_alone(byte: u8, wait: u32) -> Sent
+    ensures { λ r. ⌜ r ≡ single byte wait ⌝ }
+{
+    Sent {
+        kind: 0,
+        byte,
+        wait,
+    }
+}
 
 // Four single transfers that bring any controller to width 4 with no half waiting.
 pub fn open(out: &mut [u8]) -> Pen
     requires { ⌜ 2808 ≤ length (now out) ⌝ }
     ensures { λ r. ⌜ (r ≡ record { at = 4; wait = 100 }) × (now (out .exit) ≡ sets (now (out .entry)) 0 (encoded opening)) ⌝ }
 {
-    put(out, 0, 0, 0x30, 15_000);
-    put(out, 1, 0, 0x30, 4_100);
-    put(out, 2, 0, 0x30, 100);
-    put(out, 3, 0, 0x20, 100);
+    put(out, 0, sent_alone(0x30, 15_000));
+    put(out, 1, sent_alone(0x30, 4_100));
+    put(out, 2, sent_alone(0x30, 100));
+    put(out, 3, sent_alone(0x20, 100));
     Pen { at: 4, wait: 100 }
 }
 
@@ -91,8 +103,10 @@ fn address_byte(n: bool, place: u8) -> u8
 
 // A marked cell, with an address set first unless the cell before it in the same memory is marked.
 fn write_cell(out: &mut [u8], pen: Pen, n: bool, marks: &[u8], values: &[u8], place: u8) -> Pen
-    requires { ⌜ (pen .at + 4 ≤ 468) × (2808 ≤ length (now out)) × (place < 144) × (length (now marks) ≡ 144) × (length (now values) ≡ 144) ⌝ }
-    ensures { λ r. ⌜ Wrote (cell n (now (marks .entry)) (now (values .entry)) place) pen r (now (out .entry)) (now (out .exit)) ⌝ }
+    requires { ⌜ (pen .at + 4 ≤ 468) × (2808 ≤ length (now out)) × (place < 144) × (length (now marks) ≡ 144)
+        × (length (now values) ≡ 144) ⌝ }
+    ensures { λ r.
+        ⌜ Wrote (cell n (now (marks .entry)) (now (values .entry)) place) pen r (now (out .entry)) (now (out .exit)) ⌝ }
 {
     let at = place as usize;
     if !is_marked(marks, at) {
@@ -109,7 +123,8 @@ fn write_cell(out: &mut [u8], pen: Pen, n: bool, marks: &[u8], values: &[u8], pl
 // The marked cells, rising.
 pub fn write_cells(out: &mut [u8], pen: Pen, n: bool, marks: &[u8], values: &[u8]) -> Pen
     requires { ⌜ (pen .at ≤ 170) × (2808 ≤ length (now out)) × (length (now marks) ≡ 144) × (length (now values) ≡ 144) ⌝ }
-    ensures { λ r. ⌜ Wrote (cellsBelow n (now (marks .entry)) (now (values .entry)) 144) pen r (now (out .entry)) (now (out .exit)) ⌝ }
+    ensures { λ r.
+        ⌜ Wrote (cellsBelow n (now (marks .entry)) (now (values .entry)) 144) pen r (now (out .entry)) (now (out .exit)) ⌝ }
 {
     let mut next = pen;
     let mut place = 0;

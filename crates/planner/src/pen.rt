@@ -7,8 +7,10 @@ ghost use lib.Seq.{sets};
 ghost use Rattle.planner.specs.Pen.{Wrote};
 ghost use Rattle.controller.specs.Sent.{sixBytes};
 ghost use Rattle.planner.specs.Plan.{timeOf};
+use controller::Sent;
 use controller::long_time;
 use controller::short_time;
+use controller::six_bytes;
 
 // Where the next record goes, counted in records, and the time that the last instruction takes.
 pub struct Pen {
@@ -16,18 +18,19 @@ pub struct Pen {
     pub wait: u32,
 }
 
-// One record: kind, byte, wait little-endian.
-pub fn put(out: &mut [u8], at: usize, kind: u8, byte: u8, wait: u32)
+// One record, its six bytes.
+pub fn put(out: &mut [u8], at: usize, sent: Sent)
     requires { ⌜ (at < 468) × (2808 ≤ length (now out)) ⌝ }
-    ensures { λ _. ⌜ now (out .exit) ≡ sets (now (out .entry)) (at * 6) (sixBytes (record { kind = kind; byte = byte; wait = wait })) ⌝ }
+    ensures { λ _. ⌜ now (out .exit) ≡ sets (now (out .entry)) (at * 6) (sixBytes sent) ⌝ }
 {
     let from = at * 6;
-    out[from] = kind;
-    out[from + 1] = byte;
-    out[from + 2] = (wait % 256) as u8;
-    out[from + 3] = (wait / 256 % 256) as u8;
-    out[from + 4] = (wait / 65536 % 256) as u8;
-    out[from + 5] = (wait / 16777216 % 256) as u8;
+    let bytes = six_bytes(sent);
+    out[from] = bytes[0];
+    out[from + 1] = bytes[1];
+    out[from + 2] = bytes[2];
+    out[from + 3] = bytes[3];
+    out[from + 4] = bytes[4];
+    out[from + 5] = bytes[5];
 }
 
 // The time that a command takes: of those sent in two halves, only Home is long.
@@ -48,8 +51,24 @@ pub fn send(out: &mut [u8], pen: Pen, kind: u8, byte: u8) -> Pen
     ensures { λ r. ⌜ Wrote (record { kind = kind; byte = byte } ∷ []) pen r (now (out .entry)) (now (out .exit)) ⌝ }
 {
     let at = pen.at;
-    put(out, at, kind, byte / 16 * 16, pen.wait);
-    put(out, at + 1, kind, byte % 16 * 16, 1);
+    put(
+        out,
+        at,
+        Sent {
+            kind,
+            byte: byte / 16 * 16,
+            wait: pen.wait,
+        },
+    );
+    put(
+        out,
+        at + 1,
+        Sent {
+            kind,
+            byte: byte % 16 * 16,
+            wait: 1,
+        },
+    );
     Pen {
         at: at + 2,
         wait: time_of(kind, byte),

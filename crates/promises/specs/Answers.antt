@@ -8,7 +8,8 @@ use Rattle.lines.specs.Theorems.{ReaderAnswers, WriterAnswers, TextAnswers}
 use Rattle.planner.specs.Theorems.{PlanAnswers}
 use Rattle.player.specs.Theorems.{PlayAnswers}
 
--- Of every call that returns an answer, the theorem that says where each of its numbers is given; `texts` speaks of rows and header.
+-- Of every call that returns an answer, the theorem that says where each of its numbers is given; `texts` speaks of rows and
+-- header.
 pub record EachAnswer : Type 0 where
   pub transfer : TransferAnswers
   pub reset : ResetAnswers

@@ -6,14 +6,16 @@ use mathlib.Core.List.{List}
 use mathlib.Core.Path.{_≡_}
 use Prim.Native.Nat.{ℕ}
 use Rattle.controller.specs.Bus.{whole, badTransfer, decided, resetDecided, Performs, PerformsIn}
-use Rattle.controller.specs.Cells.{lineLength, addressSet}
-use Rattle.controller.specs.Answers.{numberOf, isDone}
+use Rattle.controller.specs.Cells.{cellOf, lineLength, addressSet}
+use Rattle.controller.specs.Answers.{numberOf, isDone, isRefusal}
 use Rattle.controller.specs.Execute.{shortTime, longTime}
-use Rattle.controller.specs.Record.{sound}
+use Rattle.controller.specs.Record.{resetRecord, sound}
+use Rattle.controller.specs.Sent.{littleEndian, numberFrom, sixBytes}
 use Rattle.controller.specs.declared.cells.Counter.{Counter}
 use Rattle.controller.specs.declared.answers.Answer.{Answer}
 use Rattle.controller.specs.declared.decision.Outcome.{Outcome}
 use Rattle.controller.specs.declared.loan.Told.{Told}
+use Rattle.controller.specs.declared.sent.Sent.{Sent}
 use Rattle.controller.specs.declared.«record».Record.{Record}
 use Rattle.controller.specs.declared.«record».Function.{Function}
 use Rattle.drawing.specs.declared.drawing.Form.{Form}
@@ -54,6 +56,12 @@ pub record EachDetermined : Type 0 where
   pub is-whole : (mem : List ℕ) → ExactlyOne (λ (x : Bool). x ≡ whole mem)
   pub is-bad : (kind byte : ℕ) → ExactlyOne (λ (x : Bool). x ≡ badTransfer kind byte)
   pub is-done : (answer : Answer) → ExactlyOne (λ (x : Bool). x ≡ isDone answer)
+  pub is-refusal : (answer : Answer) → ExactlyOne (λ (x : Bool). x ≡ isRefusal answer)
+  pub after-reset : ExactlyOne (λ (x : Record). x ≡ resetRecord)
+  pub cell-of : (counter : Counter) → ExactlyOne (λ (x : ℕ). x ≡ cellOf counter)
+  pub little-endian : (number : ℕ) → ExactlyOne (λ (x : List ℕ). x ≡ littleEndian number)
+  pub number-from : (first second third fourth : ℕ) → ExactlyOne (λ (x : ℕ). x ≡ numberFrom first second third fourth)
+  pub six-bytes : (sent : Sent) → ExactlyOne (λ (x : List ℕ). x ≡ sixBytes sent)
   pub address-set : (n : Bool) (counter : Counter) → ExactlyOne (λ (x : ℕ). x ≡ addressSet n counter)
   pub line-length : (n : Bool) → ExactlyOne (λ (x : ℕ). x ≡ lineLength n)
   pub short-time : ExactlyOne (λ (x : ℕ). x ≡ shortTime)

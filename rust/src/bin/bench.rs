@@ -16,17 +16,15 @@ use std::path::{Path, PathBuf};
 use std::process::{exit, Command};
 use std::time::{Duration, Instant};
 
-use yaropesk_model::calls::{bytes_of, Calls, MODEL, RECORD_BYTES, TRANSFER_BYTES};
-use yaropesk_model::chance::Chance;
+use yaropesk_model::bytes::{record_bytes, wish_bytes, RECORD_BYTES};
+use yaropesk_model::calls::{Calls, MODEL};
 use yaropesk_model::library::Library;
-use yaropesk_model::model::{
-    self, Half, Record, DATA_READ, DATA_WRITE, INSTRUCTION_WRITE, LINE_BYTES, MEMORY, PLAN_BYTES,
-    SESSION_BYTES, STATUS_READ,
-};
-use yaropesk_model::random_calls::{sound_record, whole_memory};
+use yaropesk_model::model::{self, Half, Record, Size, Transfer, Wish};
+use yaropesk_model::model::{DATA_READ, DATA_WRITE, INSTRUCTION_WRITE, STATUS_READ};
+use yaropesk_model::model::{LINE_BYTES, MEMORY, PLAN_BYTES, SESSION_BYTES, TRANSFER_BYTES};
+use yaropesk_model::random::{sound_record, whole_memory, Chance, SEED};
 
 const ROUNDS: usize = 60;
-const SEED: u64 = 44_780;
 
 // ---------------------------------------------------------------------------
 // Time
@@ -58,9 +56,6 @@ fn measure(name: &str, work: usize, ours: impl Fn() -> u64, theirs: impl Fn() ->
 // ---------------------------------------------------------------------------
 // Transfers
 // ---------------------------------------------------------------------------
-
-/// Kind, byte and wait.
-type Transfer = (u8, u8, u32);
 
 const TRANSFERS: usize = 20_000;
 const PASSES: usize = 10;
@@ -118,7 +113,7 @@ fn start(width: u8) -> Record {
 /// Sends the transfers, again and again, through the calls over bytes.
 #[inline(always)]
 fn send(calls: &impl Calls, start: Record, transfers: &[Transfer]) -> u64 {
-    let mut record = bytes_of(&start);
+    let mut record = record_bytes(&start);
     let mut memory = [0x20; MEMORY];
     let mut sum = 0;
     for _ in 0..PASSES {
@@ -175,18 +170,18 @@ fn panels() -> Vec<([u8; RECORD_BYTES], Vec<u8>)> {
             half: Half::None,
             ..sound_record(&mut chance)
         };
-        (bytes_of(&record), whole_memory(&mut chance))
+        (record_bytes(&record), whole_memory(&mut chance))
     };
     (0..PANELS).map(|_| panel()).collect()
 }
 
 #[inline(always)]
-fn draw(calls: &impl Calls, panels: &[([u8; RECORD_BYTES], Vec<u8>)], columns: u8) -> u64 {
-    let mut out = [0; 2 * 8 * 40];
+fn draw(calls: &impl Calls, panels: &[([u8; RECORD_BYTES], Vec<u8>)], size: Size) -> u64 {
+    let mut out = vec![0; model::picture_bytes(&start(8), size)];
     let mut sum = 0;
     for _ in 0..PICTURES / PANELS {
         for (record, memory) in black_box(panels) {
-            let answer = calls.picture(record, memory, columns, 2, 1, &mut out);
+            let answer = calls.picture(record, memory, size, 1, &mut out);
             sum += u64::from(answer) + u64::from(black_box(&out)[17]);
         }
     }
@@ -196,11 +191,12 @@ fn draw(calls: &impl Calls, panels: &[([u8; RECORD_BYTES], Vec<u8>)], columns: u
 fn measure_pictures() {
     let panels = panels();
     for columns in [16, 20] {
+        let size = Size::new(columns, 2);
         measure(
             &format!("pictures, {columns} x 2"),
             PICTURES,
-            || draw(&Library, &panels, columns),
-            || draw(&MODEL, &panels, columns),
+            || draw(&Library, &panels, size),
+            || draw(&MODEL, &panels, size),
         );
     }
 }
@@ -220,8 +216,13 @@ fn plan(calls: &impl Calls, wish: &[u8], marks: &[u8]) -> u64 {
 }
 
 fn measure_plans() {
-    // N, D and I/D; the cursor on cell 5.
-    let wish = [1, 0, 1, 0, 0, 1, 0, 0, 5, 0, 0, 0, 0, 0, 0, 0];
+    let wish = wish_bytes(&Wish {
+        n: true,
+        d: true,
+        id: true,
+        cursor: 5,
+        ..Wish::default()
+    });
     // Two lines of sixteen; then every cell.
     let mut lines = [0; MEMORY];
     lines[..16].fill(1);

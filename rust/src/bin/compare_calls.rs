@@ -13,14 +13,14 @@
 
 use yaropesk_model::calls::{answer_of, Model, MODEL};
 use yaropesk_model::case::{Case, Function, Outcome, FUNCTIONS};
-use yaropesk_model::chance::Chance;
 use yaropesk_model::demand::Trial;
 use yaropesk_model::library::Library;
+use yaropesk_model::model::Answer;
 use yaropesk_model::options::Options;
-use yaropesk_model::random_calls;
+use yaropesk_model::random::{self, Chance, SEED};
+use yaropesk_model::tally::Tally;
 use yaropesk_model::wrong;
 
-const DEFAULT_SEED: u64 = 44_780;
 const DEFAULT_CALLS: u64 = 2_000_000;
 
 const SEQUENCES: u64 = 200;
@@ -31,7 +31,7 @@ const TRIALS: u64 = 1_000;
 struct Comparison {
     model: Model,
     seed: u64,
-    counts: [[u64; 256]; FUNCTIONS.len()],
+    counts: [Tally; FUNCTIONS.len()],
 }
 
 /// Why a run stops, ready to be shown.
@@ -44,8 +44,7 @@ impl Comparison {
         if ours != case.run(&self.model) {
             return Err(self.difference(case));
         }
-        let answer = usize::from(answer_of(ours.returned));
-        self.counts[case.function as usize][answer] += 1;
+        self.counts[case.function as usize].count(answer_of(ours.returned));
         Ok(ours)
     }
 
@@ -70,7 +69,7 @@ impl Comparison {
         for number in 0..=u16::MAX {
             let [kind, byte] = number.to_le_bytes();
             let mut chance = self.chance(1, number.into());
-            for case in random_calls::kind_and_byte(&mut chance, kind, byte) {
+            for case in random::calls::kind_and_byte(&mut chance, kind, byte) {
                 self.call(&case)?;
             }
         }
@@ -80,7 +79,7 @@ impl Comparison {
     fn random_calls(&mut self, calls: u64) -> Stop {
         for number in 0..calls {
             let mut chance = self.chance(2, number);
-            self.call(&random_calls::any_call(&mut chance))?;
+            self.call(&random::calls::any_call(&mut chance))?;
         }
         Ok(())
     }
@@ -89,10 +88,10 @@ impl Comparison {
     fn sequences(&mut self) -> Stop {
         for number in 0..SEQUENCES {
             let mut chance = self.chance(3, number);
-            let mut case = random_calls::reset_of_anything(&mut chance);
+            let mut case = random::calls::reset_of_anything(&mut chance);
             for _ in 0..=SEQUENCE_TRANSFERS {
                 let left = self.call(&case)?;
-                case = random_calls::next_transfer(&mut chance, left.buffers);
+                case = random::calls::next_transfer(&mut chance, left.buffers);
             }
         }
         Ok(())
@@ -110,7 +109,8 @@ impl Comparison {
     /// Every answer that a function can give has come up, and no other.
     fn all_answers_seen(&self) -> Stop {
         for function in FUNCTIONS {
-            for (answer, &times) in (0..=255).zip(&self.counts[function as usize]) {
+            for answer in Answer::MIN..=Answer::MAX {
+                let times = self.counts[function as usize].times(answer);
                 if function.answers().contains(&answer) != (times > 0) {
                     let name = function.name();
                     return Err(format!("{name} gave answer {answer} {times} times"));
@@ -129,18 +129,8 @@ impl Comparison {
     }
 
     fn counted(&self, function: Function) -> String {
-        let counts = &self.counts[function as usize];
-        let answers: Vec<String> = function
-            .answers()
-            .iter()
-            .map(|&answer| format!("{answer}: {}", counts[usize::from(answer)]))
-            .collect();
-        let calls: u64 = counts.iter().sum();
-        format!(
-            "{} {calls} calls, answers {}",
-            function.name(),
-            answers.join(", ")
-        )
+        let (name, counts) = (function.name(), &self.counts[function as usize]);
+        format!("{name} {} calls, answers {counts}", counts.sum())
     }
 }
 
@@ -149,19 +139,22 @@ fn compare(model: Model, seed: u64, calls: u64) -> bool {
     let mut comparison = Comparison {
         model,
         seed,
-        counts: [[0; 256]; FUNCTIONS.len()],
+        counts: Default::default(),
     };
     let stop = comparison.run(calls);
     if let Err(why) = &stop {
         println!("difference, seed {seed}: {why}");
         return true;
     }
-    let all: u64 = comparison.counts.iter().flatten().sum();
+    let all: u64 = comparison.counts.iter().map(Tally::sum).sum();
     println!("{all} calls of seed {seed}: no difference");
     for function in FUNCTIONS {
         println!("  {}", comparison.counted(function));
     }
-    println!("  {SEQUENCES} sequences of {SEQUENCE_TRANSFERS} transfers from reset, {TRIALS} plans with random cuts");
+    println!(
+        "  {SEQUENCES} sequences of {SEQUENCE_TRANSFERS} transfers from reset, \
+         {TRIALS} plans with random cuts"
+    );
     false
 }
 
@@ -170,7 +163,7 @@ fn main() {
     if options.plain.len() > 2 {
         options.refuse();
     }
-    let seed = options.number(0, DEFAULT_SEED);
+    let seed = options.number(0, SEED);
     let calls = options.number(1, DEFAULT_CALLS);
     options.compare(&[], |model| compare(model, seed, calls))
 }

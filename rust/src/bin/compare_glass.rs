@@ -12,25 +12,17 @@
 
 use std::fmt::{self, Display, Formatter};
 
-use yaropesk_model::chance::Chance;
-use yaropesk_model::drawing::{Drawing, Form, Size, Written, DRAWING};
-use yaropesk_model::model::{self, Half, SESSION_BYTES};
+use yaropesk_model::drawing::{Drawing, Form, DRAWING, FORMS, USUAL};
+use yaropesk_model::model::{self, Half, Size, SESSION_BYTES};
 use yaropesk_model::options::Options;
-use yaropesk_model::programs::{run, show, shrink, Ran};
-use yaropesk_model::random_texts::random_panel_text;
-use yaropesk_model::wrong_drawings;
+use yaropesk_model::programs::{run, show, shrink, Ran, Written};
+use yaropesk_model::random::{random_panel_text, Chance, SEED};
+use yaropesk_model::wrong::drawings;
 
-const DEFAULT_SEED: u64 = 44_780;
 const DEFAULT_RUNS: u64 = 2_000;
 
 /// The words' generators lie past those of the texts.
 const WORDS: u64 = 1 << 41;
-
-/// The size that need not be said.
-const USUAL: Size = Size {
-    columns: 16,
-    lines: 2,
-};
 
 /// What is asked for: a size and a form, and the words that say so.
 #[derive(Clone)]
@@ -43,11 +35,7 @@ struct Wanted {
 impl Wanted {
     fn new(size: Size, form: Form, form_first: bool) -> Wanted {
         let numbers = [size.columns.to_string(), size.lines.to_string()];
-        let form_word = match form {
-            Form::Text => None,
-            Form::Bitmap => Some(String::from("--pbm")),
-            Form::Cells => Some(String::from("--cells")),
-        };
+        let form_word = form.word().map(String::from);
         let words = match form_first {
             true => form_word.into_iter().chain(numbers).collect(),
             false => numbers.into_iter().chain(form_word).collect(),
@@ -58,11 +46,9 @@ impl Wanted {
     /// Any size and form, the usual sizes more often; the words in either order.
     fn random(chance: &mut Chance) -> Wanted {
         let any = chance.between(1, 40) as u8;
-        let size = Size {
-            columns: chance.pick(&[1, 16, 20, 40, any, any, any, any]),
-            lines: chance.pick(&[1, 2]),
-        };
-        let form = chance.pick(&[Form::Text, Form::Bitmap, Form::Cells]);
+        let columns = chance.pick(&[1, 16, 20, 40, any, any, any, any]);
+        let size = Size::new(columns, chance.pick(&[1, 2]));
+        let form = chance.pick(&FORMS);
         let mut wanted = Wanted::new(size, form, chance.percent(50));
         if size == USUAL && chance.percent(50) {
             wanted.words.retain(|word| word.starts_with("--"));
@@ -71,8 +57,8 @@ impl Wanted {
     }
 
     /// The same of a smaller glass.
-    fn sized(&self, columns: u8, lines: u8) -> Wanted {
-        Wanted::new(Size { columns, lines }, self.form, false)
+    fn sized(&self, size: Size) -> Wanted {
+        Wanted::new(size, self.form, false)
     }
 }
 
@@ -99,19 +85,17 @@ impl Pair<'_> {
     }
 
     fn differs(&self, wanted: &Wanted, text: &[u8]) -> bool {
-        let (ran, written) = (
-            self.program_writes(wanted, text),
-            self.drawing_writes(wanted, text),
-        );
-        ran.ended.is_some() || ran.output != written.output || ran.errors != written.errors
+        let due = self.drawing_writes(wanted, text);
+        !self.program_writes(wanted, text).is(&due)
     }
 
     /// The smallest glass on which they still differ.
     fn smallest(&self, wanted: &Wanted, text: &[u8]) -> Wanted {
-        let sizes = (1..=wanted.size.lines)
-            .flat_map(|lines| (1..=wanted.size.columns).map(move |columns| (columns, lines)));
+        let sizes = (1..=wanted.size.lines).flat_map(|lines| {
+            (1..=wanted.size.columns).map(move |columns| Size::new(columns, lines))
+        });
         sizes
-            .map(|(columns, lines)| wanted.sized(columns, lines))
+            .map(|size| wanted.sized(size))
             .find(|smaller| self.differs(smaller, text))
             .unwrap_or_else(|| wanted.clone())
     }
@@ -120,18 +104,18 @@ impl Pair<'_> {
         let short = shrink(text, |text| self.differs(wanted, text));
         let smallest = self.smallest(wanted, &short);
         let ran = self.program_writes(&smallest, &short);
-        let written = self.drawing_writes(&smallest, &short);
-        let mut bytes = ran.output.iter().zip(&written.output);
+        let (written, due) = (&ran.written, self.drawing_writes(&smallest, &short));
+        let mut bytes = written.output.iter().zip(&due.output);
         let first = bytes.position(|(ours, theirs)| ours != theirs);
         println!("the words: {smallest}");
         show("shortest text", &short);
-        show("the program writes", &ran.output);
-        show("the drawing on the model is", &written.output);
+        show("the program writes", &written.output);
+        show("the drawing on the model is", &due.output);
         if let Some(at) = first {
             println!("the first {at} bytes are equal");
         }
-        if ran.errors != written.errors {
-            show("standard error should be", &written.errors);
+        if written.errors != due.errors {
+            show("standard error should be", &due.errors);
         }
         ran.show_faults();
     }
@@ -193,11 +177,9 @@ fn compare(pair: Pair, seed: u64, runs: u64) -> bool {
 
 fn main() {
     let usage = "compare_glass PROGRAM [SEED] [RUNS]";
-    let options = Options::read(usage, DRAWING, wrong_drawings::all());
-    let (Some(program), 1..=3) = (options.plain.first(), options.plain.len()) else {
-        options.refuse();
-    };
-    let seed = options.number(1, DEFAULT_SEED);
+    let options = Options::read(usage, DRAWING, drawings::all());
+    let program = options.program();
+    let seed = options.number(1, SEED);
     let runs = options.number(2, DEFAULT_RUNS);
     options.compare(&[], |drawing| {
         compare(Pair { program, drawing }, seed, runs)

@@ -11,22 +11,25 @@
 //! exit is 0 if each was found out that can be, and 1 if one was not.
 
 use yaropesk_model::calls::{Model, MODEL};
-use yaropesk_model::model;
+use yaropesk_model::model::{self, Answer};
 use yaropesk_model::options::Options;
-use yaropesk_model::programs::{run, show, shrink};
-use yaropesk_model::random_texts::random_text;
+use yaropesk_model::programs::{run, show, shrink, Written};
+use yaropesk_model::random::{random_text, SEED};
+use yaropesk_model::tally::Tally;
 use yaropesk_model::wrong;
 
-const DEFAULT_SEED: u64 = 44_780;
 const DEFAULT_TEXTS: u64 = 2_000;
 
-fn session(model: Model, text: &[u8]) -> Vec<u8> {
-    model::session_with(text, model.read_line, model.transfer)
+/// The model's report, and nothing on standard error.
+fn session(model: Model, text: &[u8]) -> Written {
+    Written {
+        output: model::session_with(text, model.read_line, model.transfer),
+        errors: Vec::new(),
+    }
 }
 
 fn differs(program: &str, model: Model, text: &[u8]) -> bool {
-    let ran = run(program, &[], text);
-    ran.ended.is_some() || !ran.errors.is_empty() || ran.output != session(model, text)
+    !run(program, &[], text).is(&session(model, text))
 }
 
 /// Shows the shortest text on which program and model differ.
@@ -34,15 +37,15 @@ fn show_difference(program: &str, model: Model, text: &[u8]) {
     let short = shrink(text, |text| differs(program, model, text));
     let ran = run(program, &[], &short);
     show("shortest text", &short);
-    show("the program prints", &ran.output);
-    show("the model prints", &session(model, &short));
+    show("the program prints", &ran.written.output);
+    show("the model prints", &session(model, &short).output);
     ran.show_faults();
 }
 
 /// Compares on so many texts; true when a difference was found (and shown).
 fn compare(program: &str, model: Model, seed: u64, texts: u64) -> bool {
     let (mut bytes, mut at_limit, mut too_long) = (0, 0, 0);
-    let mut answers = [0u64; 16];
+    let mut answers = Tally::default();
     for number in 0..texts {
         let text = random_text(seed, number);
         let length = text.len();
@@ -54,28 +57,24 @@ fn compare(program: &str, model: Model, seed: u64, texts: u64) -> bool {
             show_difference(program, model, &text);
             return true;
         }
-        count_answers(&session(model, &text), &mut answers);
+        count_answers(&session(model, &text).output, &mut answers);
     }
     println!("{texts} texts of seed {seed}, {bytes} bytes: no difference");
     println!("{at_limit} texts of 65,536 bytes, {too_long} longer");
-    let seen = answers.iter().enumerate().filter(|(_, &times)| times > 0);
-    let lines: Vec<String> = seen
-        .map(|(answer, times)| format!("{answer}: {times}"))
-        .collect();
-    println!("answers seen: {}", lines.join(", "));
+    println!("answers seen: {answers}");
     false
 }
 
 /// How often each answer stands in a report, to show what the texts reach.
-fn count_answers(report: &[u8], answers: &mut [u64; 16]) {
+fn count_answers(report: &[u8], answers: &mut Tally) {
     for line in report.split(|&byte| byte == b'\n').skip(1) {
         let answer = line
             .split(|&byte| byte == b'\t')
             .nth(1)
             .and_then(|field| std::str::from_utf8(field).ok())
-            .and_then(|field| field.parse::<usize>().ok());
+            .and_then(|field| field.parse::<Answer>().ok());
         if let Some(answer) = answer {
-            answers[answer.min(15)] += 1;
+            answers.count(answer);
         }
     }
 }
@@ -83,10 +82,8 @@ fn count_answers(report: &[u8], answers: &mut [u64; 16]) {
 fn main() {
     let usage = "compare_sessions PROGRAM [SEED] [TEXTS]";
     let options = Options::read(usage, MODEL, wrong::of_sessions());
-    let (Some(program), 1..=3) = (options.plain.first(), options.plain.len()) else {
-        options.refuse();
-    };
-    let seed = options.number(1, DEFAULT_SEED);
+    let program = options.program();
+    let seed = options.number(1, SEED);
     let texts = options.number(2, DEFAULT_TEXTS);
     // No report shows the shift, so that one cannot be found out here: `compare_glass` does.
     options.compare(&["read-shifts"], |model| {

@@ -6,14 +6,14 @@ use Prim.Native.Nat.{ℕ, _+_, _-_, _%_, _<_, _≤_}
 use native.Mathlib.Nat.{mod-lt, lt-of-lt-of-le}
 use native.Mathlib.Omega.{arith}
 use lib.Dec.{ltb, leb, lit≤}
-use borrow.Author.Tests.{ltb-true, leb-true, lt-ltb}
-use Rattle.controller.proofs.Laws.Choice.{cond-elim, and-left, and-right}
+use borrow.Author.Tests.{ltb-true, lt-ltb}
+use Rattle.controller.proofs.Laws.Choice.{cond-elim, and-right}
 use Rattle.controller.specs.declared.cells.Add.{Add}
 use Rattle.controller.specs.declared.cells.Acg.{Acg}
 use Rattle.controller.specs.declared.cells.Counter.{Counter}
 use Rattle.controller.specs.declared.cells.Counter.the-variants.{Display, Pattern}
 use Rattle.controller.specs.declared.cells.Named.the-variants.{Cell, Outside}
-use Rattle.controller.specs.Cells.{placeOf, onCell, wrapped, stepped, cellOfAdd, addOfCell, cellOfAcg, acgOfCell, addressOf, Within}
+use Rattle.controller.specs.Cells.{placeOf, onCell, wrapped, stepped, cellOfAdd, addOfCell, cellOfAcg, addressOf, Within}
 
 pub on-display : (cell : ℕ) → onCell (Display cell) ≡ true → cell < 80
 unfolding onCell
@@ -48,7 +48,7 @@ pub counted-below : (n : Bool) (cell a : ℕ) → a ≡ addOfCell n (cell % 80) 
 counted-below n cell a is = rw is (add-below n (cell % 80) (omega arith))
 
 pub address-below : (n : Bool) (counter : Counter) → onCell counter ≡ true → addressOf n counter < 128
-unfolding addressOf acgOfCell
+unfolding addressOf
 address-below n (Display cell) on = add-below n cell (on-display cell on)
 address-below n (Pattern cell) on = omega (arith, on-pattern cell on)
 
@@ -64,7 +64,6 @@ stepped-on up (Display cell) = display-on (wrapped 80 up cell) (wrapped-below 80
 stepped-on up (Pattern cell) = pattern-on (wrapped 64 up cell) (wrapped-below 64 up cell (omega arith))
 
 pub acg-on : (acg : Acg) → onCell (Pattern (cellOfAcg acg)) ≡ true
-unfolding cellOfAcg
 acg-on acg = pattern-on _ (omega arith)
 
 -- what an address names is a display cell or nothing

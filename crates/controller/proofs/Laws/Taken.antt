@@ -4,13 +4,14 @@ use mathlib.Core.Bool.{true, false, and-false}
 use mathlib.Core.List.{List}
 use mathlib.Core.Path.{_≡_}
 use Prim.Native.Nat.{ℕ, _-_, _≤_}
-use native.Mathlib.Omega.{arith}
 use lib.ListN.{length}
 use borrow.Author.Tests.{eq-eqb}
 use Rattle.controller.proofs.Laws.Record.{sound-counter, waited-over}
 use Rattle.controller.specs.declared.«record».Record.{Record}
 use Rattle.controller.specs.Bus.{decided, ordered, whole, badTransfer, mustWait}
-use Rattle.controller.specs.Halves.{accepted}
+use Rattle.controller.specs.declared.«record».Half.{Half}
+use Rattle.controller.specs.Execute.{completed}
+use Rattle.controller.specs.Halves.{accepted, begun, narrow}
 use Rattle.controller.specs.Record.{sound, waited}
 
 -- a wait as long as the busy time lets every kind in
@@ -22,3 +23,13 @@ pub taken : (rec : Record) (mem : List ℕ) (kind byte wait : ℕ) → sound rec
     → mustWait kind (waited wait rec) ≡ false → decided rec mem kind byte wait ≡ accepted mem kind byte (waited wait rec)
 unfolding decided ordered whole
 taken rec mem kind byte wait s long good may = simp (s, eq-eqb (length mem) 144 long, good, may, sound-counter rec s)
+
+-- at width 8 what is accepted is complete at once, and at width 4 what waits decides
+pub accepted-wide : (mem : List ℕ) (kind byte : ℕ) (rec : Record) → rec .wide ≡ true → accepted mem kind byte rec ≡ completed mem (begun kind byte rec) rec
+unfolding accepted
+accepted-wide mem kind byte rec wide = rw wide
+
+pub accepted-narrow : (mem : List ℕ) (kind byte : ℕ) (half : Half) (rec : Record) → rec .wide ≡ false → rec .half ≡ half
+    → accepted mem kind byte rec ≡ narrow mem kind byte half rec
+unfolding accepted
+accepted-narrow mem kind byte half rec thin waits = rw (thin, waits)

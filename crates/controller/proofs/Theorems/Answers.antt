@@ -1,11 +1,11 @@
 -- Each number is given exactly where its row applies: the answer is the number of the first row that does.
 -- Assumes nothing.
-use mathlib.Core.Bool.{Bool, true, false, cond, not, _&&_}
+use mathlib.Core.Bool.{Bool, true, false, cond, not, _&&_, false≢true}
 use mathlib.Core.List.{List}
 use mathlib.Core.Path.{_≡_, refl, sym, _∙_}
 use Prim.Native.Nat.{ℕ, _-_}
 use native.Mathlib.Omega.{arith}
-use lib.Dec.{leb, eqb}
+use lib.Dec.{leb}
 use Rattle.controller.proofs.Laws.Choice.{cond-elim, cond-map}
 use Rattle.controller.specs.declared.cells.Named.{Named}
 use Rattle.controller.specs.declared.cells.Named.the-variants.{Cell, Outside}
@@ -14,16 +14,15 @@ use Rattle.controller.specs.declared.decision.Decision.{Decision}
 use Rattle.controller.specs.declared.execute.Transfer.{Transfer}
 use Rattle.controller.specs.declared.execute.Transfer.the-variants.{Instruct, Write, Status, Read}
 use Rattle.controller.specs.declared.instruction.Instruction.{Instruction}
-use Rattle.controller.specs.declared.instruction.Instruction.the-variants.{Nothing, Clear, Home, SetEntry, SetControl, MoveCursor, ShiftDisplay, SetFunction, PatternAddress, DisplayAddress}
 use Rattle.controller.specs.declared.answers.Answer.the-variants.{Done, NotWhole, StaleRead}
 use Rattle.controller.specs.declared.decision.Effect.the-variants.{Blank}
-use Rattle.controller.proofs.Laws.Instruction.{Plain, decoded-address, decoded-plain}
+use Rattle.controller.proofs.Laws.Instruction.{decoded-address, decoded-elim}
 use Rattle.controller.proofs.Laws.Answers.{first, given}
 use Rattle.controller.specs.declared.«record».Half.{Half}
 use Rattle.controller.specs.declared.«record».Half.the-variants.{Empty, InstructionWrite, DataWrite, StatusRead, DataRead}
 use Rattle.controller.specs.declared.«record».Record.{Record}
 use Rattle.controller.specs.Bus.{decided, ordered, resetDecided, noHalf, whole, badTransfer, mustWait}
-use Rattle.controller.specs.Cells.{onCell, cellOfAdd}
+use Rattle.controller.specs.Cells.{onCell}
 use Rattle.controller.specs.Answers.{numberOf}
 use Rattle.controller.specs.Decision.{refused}
 use Rattle.controller.specs.Execute.{completed, executed, addressed, written, readOut}
@@ -36,37 +35,22 @@ use Rattle.controller.specs.Theorems.{TransferAnswers, ResetAnswers}
 abbrev numbered : Decision → ℕ
 numbered d = numberOf (d .answer)
 
--- an instruction that is no display address is done
-plain-number : (mem : List ℕ) (i : Instruction) (rec : Record) → Plain i → numbered (executed mem i rec) ≡ 0
-unfolding executed
-plain-number mem Nothing rec p = refl
-plain-number mem Clear rec p = refl
-plain-number mem Home rec p = refl
-plain-number mem (SetEntry entry) rec p = refl
-plain-number mem (SetControl control) rec p = refl
-plain-number mem (MoveCursor right) rec p = refl
-plain-number mem (ShiftDisplay right) rec p = refl
-plain-number mem (SetFunction wide function) rec p = refl
-plain-number mem (PatternAddress acg) rec p = refl
-plain-number mem (DisplayAddress add) rec p = absurd p
-
 addressed-number : (mem : List ℕ) (named : Named) (rec : Record) → numbered (addressed mem named rec) ≡ cond (isOutside named) 6 0
 unfolding addressed isOutside
 addressed-number mem (Cell cell) rec = refl
 addressed-number mem Outside rec = refl
 
-address-number : (mem : List ℕ) (byte : ℕ) (rec : Record) → leb 0x80 byte ≡ true
-    → numbered (executed mem (decoded byte) rec) ≡ cond (isOutside (cellOfAdd (rec .function .n) (record { 0 = byte - 0x80 }))) 6 0
-unfolding executed
-address-number mem byte rec high = rw (decoded-address byte high) (addressed-number mem _ rec)
-
+-- of all instructions only a display address can be answered 6
 instruct-number : (mem : List ℕ) (byte : ℕ) (rec : Record) → numbered (executed mem (decoded byte) rec) ≡ cond (lacksCell rec (Instruct byte)) 6 0
-unfolding lacksCell
+unfolding lacksCell executed
 instruct-number mem byte rec = go (leb 0x80 byte) refl
   where
     go : (t : Bool) → leb 0x80 byte ≡ t → numbered (executed mem (decoded byte) rec) ≡ cond (lacksCell rec (Instruct byte)) 6 0
-    go true high = rw high (address-number mem byte rec high)
-    go false low = rw low (plain-number mem (decoded byte) rec (decoded-plain byte low))
+    go true high = rw (high, decoded-address byte high) (addressed-number mem _ rec)
+    go false low =
+        rw low
+        (decoded-elim (λ (i : Instruction). numbered (executed mem i rec) ≡ 0) byte (λ high. absurd (false≢true (sym low ∙ high))) (λ _. refl)
+        (λ _ _. refl) (λ _. refl) (λ _. refl) (λ _. refl) (λ _. refl) refl (λ _. refl) refl)
 
 read-number : (fresh : Bool) → numberOf (cond fresh Done StaleRead) ≡ cond (not fresh) 7 0
 read-number true = refl
@@ -115,7 +99,7 @@ first-number (Read byte) rec = refl
 accepted-number : (mem : List ℕ) (kind byte : ℕ) (rec : Record)
     → numbered (accepted mem kind byte rec)
     ≡ cond (isFirst rec) 5 (cond (completeIs lacksCell kind byte rec) 6 (cond (completeIs readsStale kind byte rec) 7 (cond (isCrossed kind rec) 8 0)))
-unfolding accepted narrow isFirst completeIs isCrossed secondIs otherKind noHalf
+unfolding accepted narrow isFirst completeIs isCrossed secondIs otherKind
 accepted-number mem kind byte rec = go (rec .wide) (rec .half)
   where
     go : (wide : Bool) (half : Half)

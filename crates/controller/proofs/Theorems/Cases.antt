@@ -3,17 +3,15 @@
 use mathlib.Core.Bool.{Bool, true, false, cond, not, and-false}
 use mathlib.Core.List.{List, [], _∷_}
 use mathlib.Core.Path.{_≡_, refl, sym, ap, _∙_}
-use Prim.Native.Nat.{ℕ, _≤_, zero-le}
-use native.Mathlib.Nat.{sub-eq-zero-of-le}
+use Prim.Native.Nat.{ℕ, zero-le}
 use native.Mathlib.Omega.{arith}
-use lib.Dec.{ltb, eqb}
-use lib.ListN.{length, getD, set, length-set}
+use lib.ListN.{length, getD, set}
 use lib.Seq.{getD-set-same}
 use borrow.Author.Tests.{eq-eqb}
 use Rattle.controller.proofs.Laws.Completed.{carried-keeps}
 use Rattle.controller.proofs.Laws.Cells.{place-below}
 use Rattle.controller.proofs.Laws.Memory.{blanked-length, performed-length}
-use Rattle.controller.proofs.Laws.Taken.{covered, taken}
+use Rattle.controller.proofs.Laws.Taken.{accepted-narrow, accepted-wide, covered, taken}
 use Rattle.controller.proofs.Theorems.Sound.{transfer-keeps-sound}
 use Rattle.controller.proofs.Laws.Record.{sound-counter, waited-over}
 use Rattle.controller.specs.declared.cells.Counter.{Counter}
@@ -22,14 +20,12 @@ use Rattle.controller.specs.declared.answers.Answer.{Answer}
 use Rattle.controller.specs.declared.answers.Answer.the-variants.{Done, NoCell, Unsound, BadTransfer}
 use Rattle.controller.specs.declared.decision.Decision.{Decision}
 use Rattle.controller.specs.declared.decision.Effect.the-variants.{Keep}
-use Rattle.controller.specs.declared.execute.Transfer.{Transfer}
-use Rattle.controller.specs.declared.execute.Transfer.the-variants.{Instruct, Write, Status, Read}
 use Rattle.controller.specs.declared.«record».Half.{Half}
-use Rattle.controller.specs.declared.«record».Half.the-variants.{Empty, InstructionWrite, DataWrite, StatusRead, DataRead}
+use Rattle.controller.specs.declared.«record».Half.the-variants.{Empty, InstructionWrite, DataWrite}
 use Rattle.controller.specs.declared.«record».Record.{Record}
-use Rattle.controller.specs.Bus.{decided, ordered, resetDecided, whole, badTransfer, mustWait, noHalf}
+use Rattle.controller.specs.Bus.{decided, ordered, resetDecided, whole, badTransfer, mustWait}
 use Rattle.controller.specs.Cases.{Waits, afterReset, statusRead, dataWrite, P1, WriteLeads, P2, P3, Answers, P4, P6, P8, P9, P10, sentIn11, P11}
-use Rattle.controller.specs.Cells.{onCell, wrapped, stepped, placeOf, byteUnder, addressOf, addOfCell, acgOfCell, cellOfAdd, cellOfAcg}
+use Rattle.controller.specs.Cells.{onCell, wrapped, stepped, placeOf, addressOf, addOfCell, cellOfAdd}
 use Rattle.controller.specs.Answers.{numberOf}
 use Rattle.controller.specs.Decision.{blanked, performed, done, refused}
 use Rattle.controller.specs.Execute.{shortTime, longTime, statusOf, completed, executed, addressed, carried, written, readOut, homed}
@@ -48,22 +44,22 @@ waits-taken rec mem wide half kind byte wait w good =
 
 pub taken-wide : (rec : Record) (mem : List ℕ) (half : Half) (kind byte wait : ℕ) → Waits rec mem true half wait → badTransfer kind byte ≡ false
     → decided rec mem kind byte wait ≡ completed mem (begun kind byte (busyOver rec)) (busyOver rec)
-unfolding accepted
-taken-wide rec mem half kind byte wait w good = waits-taken rec mem true half kind byte wait w good ∙ rw (w .width)
+taken-wide rec mem half kind byte wait w good =
+    waits-taken rec mem true half kind byte wait w good ∙ accepted-wide mem kind byte (busyOver rec) (w .width)
 
 pub taken-narrow : (rec : Record) (mem : List ℕ) (half : Half) (kind byte wait : ℕ) → Waits rec mem false half wait → badTransfer kind byte ≡ false
     → decided rec mem kind byte wait ≡ narrow mem kind byte half (busyOver rec)
-unfolding accepted
-taken-narrow rec mem half kind byte wait w good = waits-taken rec mem false half kind byte wait w good ∙ rw (w .width, w .holds)
+taken-narrow rec mem half kind byte wait w good =
+    waits-taken rec mem false half kind byte wait w good ∙ accepted-narrow mem kind byte half (busyOver rec) (w .width) (w .holds)
 
 -- what reset leaves
 reset-state : (rec : Record) (mem : List ℕ) → length mem ≡ 144 → afterReset rec mem ≡ record { rec = resetRecord; mem = blanked mem }
-unfolding resetDecided whole performed
+unfolding resetDecided performed whole
 reset-state rec mem long = rw (eq-eqb (length mem) 144 long)
 
 status-told : (mem : List ℕ) (wait less : ℕ) → length mem ≡ 144 → waited wait resetRecord ≡ withBusy less resetRecord
     → decided resetRecord mem 2 0 wait .byte ≡ statusOf (withBusy less resetRecord)
-unfolding decided ordered whole sound halfSound onCell resetRecord resetTime badTransfer mustWait noHalf accepted begun completed
+unfolding decided ordered sound halfSound onCell resetRecord resetTime badTransfer mustWait accepted begun completed whole
 status-told mem wait less long is = simp (eq-eqb (length mem) 144 long, is, and-false)
 
 pub p1 : P1
@@ -90,7 +86,7 @@ unfolding addressOf addOfCell stepped wrapped
 p3 = (write-leads true (Display 79) 0x67 (Display 0) 0x00 refl refl refl, write-leads false (Display 79) 0x4F (Display 0) 0x00 refl refl refl)
 
 pub p6 : P6
-unfolding addressOf acgOfCell stepped wrapped
+unfolding addressOf stepped wrapped
 p6 n = write-leads n (Pattern 63) 0x3F (Pattern 0) 0x00 refl refl refl
 
 -- a display address, answered by the cell that it names
@@ -195,5 +191,5 @@ heard-open s (t ∷ ts) long =
     ∙ ap (λ (l : List Heard). toldOf d ∷ l) (heard-open (after s d) ts (performed-length (d .effect) (s .mem) long))
 
 pub p11 : P11
-unfolding openHeard openly ordered waited sound halfSound onCell resetRecord resetTime badTransfer mustWait noHalf accepted begun completed statusOf addressOf addOfCell executed decoded bit written carried stepped wrapped placeOf readOut shortTime performed
+unfolding openHeard openly ordered waited sound halfSound onCell resetRecord resetTime badTransfer mustWait accepted begun completed statusOf addressOf addOfCell executed decoded bit written carried stepped wrapped placeOf readOut shortTime performed
 p11 rec mem long = ap (λ (s : State). heard s sentIn11) (reset-state rec mem long) ∙ heard-open _ sentIn11 (blanked-length mem long)

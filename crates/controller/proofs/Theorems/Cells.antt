@@ -1,15 +1,14 @@
 -- The theorems of cells: wrapping, once over the size, and addresses that match their cells.
 -- Assumes nothing.
-use mathlib.Core.Bool.{Bool, true, false, cond, _&&_, false≢true}
-use mathlib.Core.Path.{_≡_, refl, sym, ap, _∙_}
+use mathlib.Core.Bool.{Bool, true, false, cond, _&&_}
+use mathlib.Core.Path.{_≡_, refl, ap, _∙_}
 use Prim.Native.Nat.{ℕ, _+_, _-_, _%_, _<_, _≤_}
 use native.Mathlib.Nat.{mod-eq-of-lt, mod-self, add-mod-right}
 use native.Mathlib.Omega.{arith}
 use lib.Dec.{ltb, leb, eqb}
-use borrow.Author.Tests.{eqb-true, eqb-false, ltb-true, ltb-false, leb-true, lt-ltb, le-ltb, le-leb}
-use Rattle.controller.proofs.Laws.Choice.{cond-elim, and-left, and-right}
+use borrow.Author.Tests.{eqb-true, eqb-false, ltb-false, leb-true, lt-ltb, le-ltb, le-leb}
+use Rattle.controller.proofs.Laws.Choice.{cond-elim, and-left}
 use Rattle.controller.specs.declared.cells.Add.{Add}
-use Rattle.controller.specs.declared.cells.Named.{Named}
 use Rattle.controller.specs.declared.cells.Named.the-variants.{Cell, Outside}
 use Rattle.controller.specs.Cells.{wrapped, cellOfAdd, addOfCell}
 use Rattle.controller.specs.Theorems.{Wraps, AddressesMatch}

@@ -1,82 +1,34 @@
 -- What a refusal leaves: byte 00h, the memory as found, and the record as its row says.
 -- Assumes nothing.
-use mathlib.Core.Bool.{Bool, true, false, cond, not, _&&_, false≢true}
+use mathlib.Core.Bool.{Bool, true, false, not, _&&_, false≢true}
 use mathlib.Core.List.{List}
 use mathlib.Core.Path.{_≡_, refl, sym, ap, _∙_}
 use Prim.Native.Nat.{ℕ, _-_}
-use lib.Dec.{leb}
 use borrow.Author.Tests.{not-false}
 use Rattle.controller.proofs.Laws.Choice.{cond-elim}
-use Rattle.controller.proofs.Laws.Instruction.{Plain, decoded-address, decoded-plain}
+use Rattle.controller.proofs.Laws.Completed.{completed-carried}
 use Rattle.controller.proofs.Laws.Kept.{wide-none}
 use Rattle.controller.proofs.Laws.Record.{sound-half, waited-sound}
-use Rattle.controller.specs.declared.cells.Named.{Named}
-use Rattle.controller.specs.declared.cells.Named.the-variants.{Cell, Outside}
 use Rattle.controller.specs.declared.answers.Answer.{Answer}
-use Rattle.controller.specs.declared.answers.Answer.the-variants.{Done, NotWhole, NoCell, StaleRead}
+use Rattle.controller.specs.declared.answers.Answer.the-variants.{NotWhole, NoCell}
 use Rattle.controller.specs.declared.decision.Decision.{Decision}
-use Rattle.controller.specs.declared.decision.Effect.the-variants.{Blank}
 use Rattle.controller.specs.declared.execute.Transfer.{Transfer}
 use Rattle.controller.specs.declared.execute.Transfer.the-variants.{Instruct, Write, Status, Read}
-use Rattle.controller.specs.declared.instruction.Instruction.{Instruction}
-use Rattle.controller.specs.declared.instruction.Instruction.the-variants.{Nothing, Clear, Home, SetEntry, SetControl, MoveCursor, ShiftDisplay, SetFunction, PatternAddress, DisplayAddress}
 use Rattle.controller.specs.declared.«record».Half.{Half}
 use Rattle.controller.specs.declared.«record».Half.the-variants.{Empty, InstructionWrite, DataWrite, StatusRead, DataRead}
 use Rattle.controller.specs.declared.«record».Record.{Record}
 use Rattle.controller.specs.Bus.{decided, ordered, resetDecided, whole, badTransfer, mustWait}
-use Rattle.controller.specs.Cells.{onCell, cellOfAdd}
-use Rattle.controller.specs.Answers.{numberOf, isDone, isRefusal}
+use Rattle.controller.specs.Cells.{onCell}
+use Rattle.controller.specs.Answers.{isDone, isRefusal}
 use Rattle.controller.specs.Decision.{refused}
-use Rattle.controller.specs.Execute.{completed, executed, addressed, written, readOut}
+use Rattle.controller.specs.Execute.{completed}
 use Rattle.controller.specs.Halves.{accepted, narrow, begun, firstHalf, secondHalf, crossed, ended}
-use Rattle.controller.specs.Instruction.{decoded}
-use Rattle.controller.specs.Record.{sound, waited, withHalf, resetRecord}
+use Rattle.controller.specs.Record.{sound, waited, withHalf}
 use Rattle.controller.specs.Theorems.{left, LeavesAsSaid, TransferRefusals, ResetRefusals}
 
 -- this decision, if it refuses, is a 6 that leaves this record
 abbrev OnlySix : Record → Decision → Type 0
 OnlySix rec d = isRefusal (d .answer) ≡ true → d ≡ refused NoCell rec
-
-plain-only : (mem : List ℕ) (i : Instruction) (rec : Record) → Plain i → OnlySix rec (executed mem i rec)
-unfolding executed isRefusal
-plain-only mem Nothing rec p r = absurd (false≢true r)
-plain-only mem Clear rec p r = absurd (false≢true r)
-plain-only mem Home rec p r = absurd (false≢true r)
-plain-only mem (SetEntry entry) rec p r = absurd (false≢true r)
-plain-only mem (SetControl control) rec p r = absurd (false≢true r)
-plain-only mem (MoveCursor right) rec p r = absurd (false≢true r)
-plain-only mem (ShiftDisplay right) rec p r = absurd (false≢true r)
-plain-only mem (SetFunction wide function) rec p r = absurd (false≢true r)
-plain-only mem (PatternAddress acg) rec p r = absurd (false≢true r)
-plain-only mem (DisplayAddress add) rec p r = absurd p
-
-addressed-only : (mem : List ℕ) (named : Named) (rec : Record) → OnlySix rec (addressed mem named rec)
-unfolding addressed isRefusal
-addressed-only mem (Cell cell) rec r = absurd (false≢true r)
-addressed-only mem Outside rec r = refl
-
-address-only : (mem : List ℕ) (byte : ℕ) (rec : Record) → leb 0x80 byte ≡ true → OnlySix rec (executed mem (decoded byte) rec)
-unfolding executed
-address-only mem byte rec high = rw (decoded-address byte high) (addressed-only mem _ rec)
-
-instruct-only : (mem : List ℕ) (byte : ℕ) (rec : Record) → OnlySix rec (executed mem (decoded byte) rec)
-instruct-only mem byte rec = go (leb 0x80 byte) refl
-  where
-    go : (t : Bool) → leb 0x80 byte ≡ t → OnlySix rec (executed mem (decoded byte) rec)
-    go true high = address-only mem byte rec high
-    go false low = plain-only mem (decoded byte) rec (decoded-plain byte low)
-
-read-never : (fresh : Bool) → isRefusal (cond fresh Done StaleRead) ≡ false
-unfolding isRefusal
-read-never true = refl
-read-never false = refl
-
-completed-only : (mem : List ℕ) (t : Transfer) (rec : Record) → OnlySix rec (completed mem t rec)
-unfolding completed written readOut isRefusal
-completed-only mem (Instruct byte) rec r = instruct-only mem byte rec r
-completed-only mem (Write byte) rec r = absurd (false≢true r)
-completed-only mem (Status byte) rec r = absurd (false≢true r)
-completed-only mem (Read byte) rec r = absurd (false≢true (sym (read-never (rec .fresh)) ∙ r))
 
 -- crossing makes no refusal
 crossed-refusal : (other : Bool) (answer : Answer) → isRefusal (crossed other answer) ≡ true → isRefusal answer ≡ true
@@ -94,7 +46,7 @@ second-only : (mem : List ℕ) (other : Bool) (t : Transfer) (rec : Record) → 
 unfolding secondHalf
 second-only mem other t rec r =
     let d = completed mem t (withHalf Empty rec) in
-    ap (ended other) (completed-only mem t (withHalf Empty rec) (crossed-refusal other (d .answer) r)) ∙ ended-six other (withHalf Empty rec)
+    ap (ended other) (completed-carried mem t (withHalf Empty rec) .only (crossed-refusal other (d .answer) r)) ∙ ended-six other (withHalf Empty rec)
 
 first-never : (t : Transfer) (rec : Record) → isRefusal (firstHalf t rec .answer) ≡ false
 unfolding firstHalf isRefusal
@@ -119,7 +71,7 @@ accepted-only : (mem : List ℕ) (kind byte : ℕ) (rec : Record) → sound rec 
 unfolding accepted
 accepted-only mem kind byte rec s =
     cond-elim (OnlySix (withHalf Empty rec)) (rec .wide) _ _
-    (λ wide r. completed-only mem (begun kind byte rec) rec r ∙ ap (refused NoCell) (no-half rec s wide))
+    (λ wide r. completed-carried mem (begun kind byte rec) rec .only r ∙ ap (refused NoCell) (no-half rec s wide))
     (λ _. narrow-only mem kind byte (rec .half) rec)
 
 -- a 6 leaves what its row says

@@ -4,9 +4,10 @@ use mathlib.Core.Bool.{true}
 use mathlib.Core.Path.{_≡_, refl}
 use native.Mathlib.Omega.{arith}
 use Rattle.controller.proofs.Laws.Cells.{display-on}
-use Rattle.controller.proofs.Laws.Kept.{decided-kept, decided-fits, reset-fits, idle-sound}
+use Rattle.controller.proofs.Laws.Completed.{idle-sound}
+use Rattle.controller.proofs.Laws.Kept.{decided-kept, decided-fits, reset-fits}
 use Rattle.controller.specs.Bus.{resetDecided}
-use Rattle.controller.specs.Record.{resetRecord, resetTime, sound}
+use Rattle.controller.specs.Record.{resetRecord, sound}
 use Rattle.controller.specs.Theorems.{TransferKeepsSound, ResetMakesSound, EffectsFit}
 
 pub transfer-keeps-sound : TransferKeepsSound

@@ -1,34 +1,33 @@
 -- The marked cells, one by one: before each place the cells below it are written, and inside a run the counter is there.
 -- Assumes nothing.
-use mathlib.Core.Bool.{Bool, true, false, not, _&&_, false≢true}
-use mathlib.Core.List.{List, [], _∷_, _++_, append-assoc}
+use mathlib.Core.Bool.{Bool, true, false, not, false≢true}
+use mathlib.Core.List.{List, _∷_, _++_, append-assoc}
 use mathlib.Core.Logic.{⊎-elim}
 use mathlib.Core.Path.{_≡_, refl, sym, ap, subst, _∙_}
 use Prim.Native.Nat.{ℕ, zero, suc, _+_, _-_, _%_, _≤_, _<_}
 use native.Mathlib.Nat.{le-refl, eq-or-lt-of-le, le-of-suc-le-suc, mod-eq-of-lt}
 use native.Mathlib.Omega.{arith}
-use lib.Dec.{eqb, ltb, leb}
+use lib.Dec.{eqb, ltb}
 use lib.ListN.{length, getD, set}
 use lib.Seq.{getD-set-same, getD-set-other}
-use borrow.Author.Tests.{eqb-true, eqb-false, ltb-true, ltb-false, lt-ltb, le-ltb, le-leb, lt-leb, ne-eqb, eq-eqb, not-true}
+use borrow.Author.Tests.{ltb-true, ltb-false, lt-ltb, le-ltb, le-leb, lt-leb, ne-eqb}
 use Rattle.controller.proofs.Laws.Cells.{address-below, display-on}
-use Rattle.controller.proofs.Laws.Choice.{cond-elim, and-left, and-right}
+use Rattle.controller.proofs.Laws.Choice.{and-right}
 use Rattle.controller.proofs.Laws.Instruction.{decoded-address}
 use Rattle.controller.proofs.Theorems.Cells.{addresses-match, wraps}
-use Rattle.controller.specs.Cells.{placeOf, wrapped, stepped, cellOfAdd, addOfCell, cellOfAcg, acgOfCell, addressSet, addressOf}
+use Rattle.controller.specs.Cells.{placeOf, stepped, cellOfAdd, addOfCell, addressSet, addressOf}
 use Rattle.controller.specs.Decision.{performed, done}
-use Rattle.controller.specs.Execute.{shortTime, loaded, changed, addressed, executed, carried, written}
+use Rattle.controller.specs.Execute.{shortTime, placed, movedOn, loaded, changed, addressed, executed, carried, written}
 use Rattle.controller.specs.Instruction.{decoded}
-use Rattle.controller.specs.Record.{withBusy, withCounter, withRegister}
+use Rattle.controller.specs.Record.{busyOver, withCounter, withRegister}
 use Rattle.controller.specs.Runs.{State, after}
 use Rattle.controller.specs.declared.cells.Acg.{Acg}
 use Rattle.controller.specs.declared.cells.Add.{Add}
 use Rattle.controller.specs.declared.cells.Counter.{Counter}
 use Rattle.controller.specs.declared.cells.Counter.the-variants.{Display, Pattern}
 use Rattle.controller.specs.declared.cells.Named.{Named}
-use Rattle.controller.specs.declared.cells.Named.the-variants.{Cell}
 use Rattle.controller.specs.declared.decision.Decision.{Decision}
-use Rattle.controller.specs.declared.decision.Effect.the-variants.{Keep, Store}
+use Rattle.controller.specs.declared.decision.Effect.the-variants.{Store}
 use Rattle.controller.specs.declared.instruction.Instruction.{Instruction}
 use Rattle.controller.specs.declared.instruction.Instruction.the-variants.{PatternAddress, DisplayAddress}
 use Rattle.controller.specs.declared.«record».Entry.{Entry}
@@ -97,7 +96,7 @@ low-byte n place below =
     ap (addressSet n) (display-at place below) ∙ ap (λ (cell : ℕ). 0x80 + addOfCell n cell .0) same
 
 high-byte : (n : Bool) (place : ℕ) → 80 ≤ place → place < 144 → addressByte n place ≡ 0x40 + (place - 80)
-unfolding addressByte addressSet acgOfCell
+unfolding addressByte addressSet
 high-byte n place over below =
     let same : (place - 80) % 64 ≡ place - 80 = mod-eq-of-lt (omega arith) in
     ap (addressSet n) (pattern-at place over) ∙ ap (λ (cell : ℕ). 0x40 + cell) same
@@ -119,7 +118,7 @@ abbrev acg : ℕ → Acg
 acg a = record { 0 = a }
 
 display-does : (mem : List ℕ) (n : Bool) (place : ℕ) (rec : Record) → place < 80 → rec .function .n ≡ n
-    → executed mem (decoded (addressByte n place)) rec ≡ changed (loaded mem (Display place) rec)
+    → executed mem (decoded (addressByte n place)) rec ≡ changed (loaded mem (placed (Display place) rec))
 unfolding executed addressed
 display-does mem n place rec low lines =
     let a : ℕ = addOfCell n place .0 in
@@ -135,21 +134,21 @@ unfolding decoded
 decoded-pattern byte over below = rw (lt-leb 0x80 byte below, le-leb 0x40 byte over)
 
 pattern-does : (mem : List ℕ) (n : Bool) (place : ℕ) (rec : Record) → 80 ≤ place → place < 144
-    → executed mem (decoded (addressByte n place)) rec ≡ changed (loaded mem (Pattern (place - 80)) rec)
-unfolding executed cellOfAcg
+    → executed mem (decoded (addressByte n place)) rec ≡ changed (loaded mem (placed (Pattern (place - 80)) rec))
+unfolding executed
 pattern-does mem n place rec high below =
     let byte : addressByte n place ≡ 0x40 + (place - 80) = high-byte n place high below in
     let back : (0x40 + (place - 80) - 0x40) % 64 ≡ place - 80 = omega arith in
     ap (λ (i : Instruction). executed mem i rec) (ap decoded byte ∙ decoded-pattern (0x40 + (place - 80)) (omega arith) (omega arith))
-    ∙ ap (λ (c : ℕ). changed (loaded mem (Pattern c) rec)) back
+    ∙ ap (λ (c : ℕ). changed (loaded mem (placed (Pattern c) rec))) back
 
 -- it brings the counter there
 pub address-does : (mem : List ℕ) (n : Bool) (place : ℕ) (rec : Record) → place < 144 → rec .function .n ≡ n
-    → executed mem (decoded (addressByte n place)) rec ≡ changed (loaded mem (counterAt place) rec)
+    → executed mem (decoded (addressByte n place)) rec ≡ changed (loaded mem (placed (counterAt place) rec))
 address-does mem n place rec below lines =
     side place
-    (λ low. display-does mem n place rec low lines ∙ ap (λ (c : Counter). changed (loaded mem c rec)) (sym (display-at place low)))
-    (λ high. pattern-does mem n place rec high below ∙ ap (λ (c : Counter). changed (loaded mem c rec)) (sym (pattern-at place high)))
+    (λ low. display-does mem n place rec low lines ∙ ap (λ (c : Counter). changed (loaded mem (placed c rec))) (sym (display-at place low)))
+    (λ high. pattern-does mem n place rec high below ∙ ap (λ (c : Counter). changed (loaded mem (placed c rec))) (sym (pattern-at place high)))
 
 -- without S the display does not follow a write
 carried-off : (counter : Counter) (rec : Record) → rec .entry .s ≡ false → carried counter rec ≡ rec
@@ -165,8 +164,7 @@ wrote byte rec =
 write-does : (byte : ℕ) (rec : Record) → rec .entry .id ≡ true → rec .entry .s ≡ false → written byte rec ≡ wrote byte rec
 unfolding written wrote
 write-does byte rec rising fixed =
-    ap (λ (r : Record). done shortTime (Store (placeOf (rec .counter)) byte) (withRegister byte false (withCounter (stepped (rec .entry .id) (rec .counter)) r)))
-    (carried-off (rec .counter) rec fixed)
+    ap (λ (r : Record). done shortTime (Store (placeOf (rec .counter)) byte) (withRegister byte false r)) (carried-off (rec .counter) (movedOn rec) fixed)
     ∙ ap (λ (x : Bool). done shortTime (Store (placeOf (rec .counter)) byte) (withRegister byte false (withCounter (stepped x (rec .counter)) rec))) rising
 
 -- what holds before the cell at this place is dealt with
@@ -199,7 +197,7 @@ write-at : (k : Scene) (Q : State → Type 0) (wish : Wish) (place wait : ℕ) (
     → Later k Q wish (suc place) rest → Safe k Q s (inHalves wait (write (getD (k .values) place 0) ∷ rest))
 unfolding wrote performed timeOf
 write-at k Q wish place wait s rest below mark inv steady shaped there before later =
-    let rec : Record = withBusy 0 (s .rec) in
+    let rec : Record = busyOver (s .rec) in
     let byte : ℕ = getD (k .values) place 0 in
     let d : Decision = wrote byte rec in
     let here : placeOf (s .rec .counter) ≡ place = ap placeOf there ∙ place-at place in
@@ -236,10 +234,10 @@ first-at : (k : Scene) (Q : State → Type 0) (wish : Wish) (place wait : ℕ) (
 unfolding performed
 first-at k Q wish place wait s rest below mark at later =
     let n : Bool = wish .function .n in
-    let d : Decision = changed (loaded (s .mem) (counterAt place) (withBusy 0 (s .rec))) in
+    let d : Decision = changed (loaded (s .mem) (placed (counterAt place) (busyOver (s .rec)))) in
     let small = address-small n place below in
     instruct k Q s (addressByte n place) wait shortTime _ d (small .0)
-    (address-does (s .mem) n place (withBusy 0 (s .rec)) below (ap (λ (x : Function). x .n) (at .shaped .function)))
+    (address-does (s .mem) n place (busyOver (s .rec)) below (ap (λ (x : Function). x .n) (at .shaped .function)))
     refl (empty-quiet _ (at .steady .half)) (short-time (addressByte n place) (λ e. omega arith)) (at .inv) (at .steady)
     (λ inv₁. write-at k Q wish place shortTime (after s d) rest below mark inv₁
     (record { busy = le-refl shortTime; narrow = at .steady .narrow; half = at .steady .half })

@@ -1,20 +1,20 @@
 -- A command in two halves, at width 4 with no half waiting, is one operation of its whole byte.
 -- Assumes nothing.
-use mathlib.Core.Bool.{Bool, true, false, cond}
-use mathlib.Core.List.{List, [], _∷_}
-use mathlib.Core.Logic.{_⊎_, inl, inr}
+use mathlib.Core.Bool.{true, false}
+use mathlib.Core.List.{List, _∷_}
+use mathlib.Core.Logic.{inl, inr}
 use mathlib.Core.Path.{_≡_, refl, sym, ap, subst, _∙_}
-use Prim.Native.Nat.{ℕ, _+_, _*_, _/_, _%_, _≤_, _<_, zero-le}
+use Prim.Native.Nat.{ℕ, _+_, _*_, _/_, _≤_, _<_, zero-le}
 use native.Mathlib.Omega.{arith}
 use lib.ListN.{getD}
+use Rattle.controller.proofs.Laws.Taken.{accepted-narrow}
 use Rattle.controller.specs.Bus.{badTransfer}
 use Rattle.controller.specs.Cells.{placeOf}
-use Rattle.controller.specs.Answers.{numberOf}
 use Rattle.controller.specs.Decision.{performed}
 use Rattle.controller.specs.Execute.{completed, executed, written}
-use Rattle.controller.specs.Halves.{highHalf, lowHalf, begun, firstTold, firstHalf, crossed, ended, secondHalf, narrow, accepted}
+use Rattle.controller.specs.Halves.{highHalf, lowHalf, begun, wholeByte, firstTold, firstHalf, ended, secondHalf, narrow}
 use Rattle.controller.specs.Instruction.{decoded}
-use Rattle.controller.specs.Record.{withBusy, withHalf}
+use Rattle.controller.specs.Record.{busyOver, withHalf}
 use Rattle.controller.specs.declared.sent.Sent.{Sent}
 use Rattle.controller.specs.Runs.{State, after}
 use Rattle.controller.specs.declared.decision.Decision.{Decision}
@@ -46,85 +46,102 @@ high-of byte = omega arith
 whole-of : (byte : ℕ) → byte / 16 * 16 + lowHalf byte / 16 ≡ byte
 whole-of byte = omega arith
 
--- what waits at width 4 decides
-narrowly : (mem : List ℕ) (kind byte : ℕ) (half : Half) (rec : Record) → rec .wide ≡ false → rec .half ≡ half
-    → accepted mem kind byte rec ≡ narrow mem kind byte half rec
-unfolding accepted
-narrowly mem kind byte half rec thin waits = rw (thin, waits)
-
 -- a record with no half is itself with its half gone
 without : (rec : Record) → rec .half ≡ Empty → withHalf Empty rec ≡ rec
 without rec none = ap (λ (half : Half). withHalf half rec) (sym none)
 
-first-instruct : (s : State) (wait byte : ℕ) → Steady wait (s .rec)
-    → comesTo s (firstSent wait (instruction byte)) ≡ firstTold 0 (InstructionWrite (byte / 16)) (withBusy 0 (s .rec))
-unfolding comesTo begun firstHalf narrow
-first-instruct s wait byte steady =
-    narrowly (s .mem) 0 (highHalf byte) Empty (withBusy 0 (s .rec)) (steady .narrow) (steady .half)
-    ∙ ap (λ (high : ℕ). firstTold 0 (InstructionWrite high) (withBusy 0 (s .rec))) (high-of byte)
+-- a kind of write: the command of a byte, how its high half waits, and what the whole byte completes
+record Way : Type 0 where
+  kind : ℕ
+  waits : ℕ → Half
+  makes : ℕ → Transfer
+  good : (byte : ℕ) → badTransfer kind byte ≡ false
+  first : (mem : List ℕ) (byte : ℕ) (rec : Record) → narrow mem kind byte Empty rec ≡ firstTold 0 (waits (byte / 16)) rec
+  second : (mem : List ℕ) (high byte : ℕ) (rec : Record) → narrow mem kind byte (waits high) rec ≡ secondHalf mem false (makes (wholeByte high byte)) rec
 
-second-instruct : (s : State) (byte : ℕ) → s .rec .wide ≡ false → s .rec .half ≡ Empty
-    → comesTo (after s (firstTold 0 (InstructionWrite (byte / 16)) (withBusy 0 (s .rec)))) (secondSent (instruction byte))
-    ≡ ended true (executed (s .mem) (decoded byte) (withBusy 0 (s .rec)))
-unfolding comesTo narrow secondHalf completed performed
-second-instruct s byte thin none =
-    narrowly (s .mem) 0 (lowHalf byte) (InstructionWrite (byte / 16)) (withHalf (InstructionWrite (byte / 16)) (withBusy 0 (s .rec))) thin refl
-    ∙ ap (λ (b : ℕ). ended true (executed (s .mem) (decoded b) (withHalf Empty (withBusy 0 (s .rec))))) (whole-of byte)
-    ∙ ap (λ (r : Record). ended true (executed (s .mem) (decoded byte) r)) (without (withBusy 0 (s .rec)) none)
+abbrev instructing : Way
+unfolding badTransfer narrow begun firstHalf
+instructing =
+    record {
+      kind = 0;
+      waits = InstructionWrite;
+      makes = Instruct;
+      good = λ byte. refl;
+      first = λ mem byte rec. refl;
+      second = λ mem high byte rec. refl;
+    }
+
+abbrev writing : Way
+unfolding badTransfer narrow begun firstHalf
+writing =
+    record {
+      kind = 1;
+      waits = DataWrite;
+      makes = Write;
+      good = λ byte. refl;
+      first = λ mem byte rec. refl;
+      second = λ mem high byte rec. refl;
+    }
+
+module _ (w : Way) (s : State) (byte : ℕ) where
+  abbrev command : Command
+  command = record { kind = w .kind; byte = byte }
+
+  -- after the first half
+  abbrev one : Decision
+  one = firstTold 0 (w .waits (byte / 16)) (busyOver (s .rec))
+
+  first-sent : (wait : ℕ) → Steady wait (s .rec) → comesTo s (firstSent wait command) ≡ one
+  unfolding comesTo
+  first-sent wait steady =
+      accepted-narrow (s .mem) (w .kind) (highHalf byte) Empty (busyOver (s .rec)) (steady .narrow) (steady .half)
+      ∙ w .first (s .mem) (highHalf byte) (busyOver (s .rec))
+      ∙ ap (λ (high : ℕ). firstTold 0 (w .waits high) (busyOver (s .rec))) (high-of byte)
+
+  second-sent : s .rec .wide ≡ false → s .rec .half ≡ Empty
+      → comesTo (after s one) (secondSent command) ≡ ended false (completed (s .mem) (w .makes byte) (busyOver (s .rec)))
+  unfolding comesTo secondHalf performed
+  second-sent thin none =
+      accepted-narrow (s .mem) (w .kind) (lowHalf byte) (w .waits (byte / 16)) (one .rec) thin refl
+      ∙ w .second (s .mem) (byte / 16) (lowHalf byte) (one .rec)
+      ∙ ap (λ (b : ℕ). ended false (completed (s .mem) (w .makes b) (withHalf Empty (busyOver (s .rec))))) (whole-of byte)
+      ∙ ap (λ (r : Record). ended false (completed (s .mem) (w .makes byte) r)) (without (busyOver (s .rec)) none)
+
+  -- both halves, neither of which does harm, and then the rest
+  in-two : (k : Scene) (Q : State → Type 0) (wait time : ℕ) (cs : List Command) (d : Decision) → byte < 256
+      → completed (s .mem) (w .makes byte) (busyOver (s .rec)) ≡ d → Harmless k one → Harmless k (ended false d)
+      → timeOf command ≡ time → Inv k s → Steady wait (s .rec)
+      → (Inv k (after s d) → Safe k Q (after s d) (inHalves time cs)) → Safe k Q s (inHalves wait (command ∷ cs))
+  unfolding inHalves performed
+  in-two k Q wait time cs d below does harmless-one harmless takes inv steady rest =
+      step-to k Q s (firstSent wait command) _ one (first-sent wait steady) inv (w .good (highHalf byte)) (omega arith) (steady .busy) harmless-one
+      (λ next. step-to k Q (after s one) (secondSent command) _ (ended false d)
+      (second-sent (steady .narrow) (steady .half) ∙ ap (ended false) does) next (w .good (lowHalf byte)) (omega arith) zero-le harmless
+      (λ last. subst (λ (t : ℕ). Safe k Q (after s d) (inHalves t cs)) (sym takes) (rest last)))
 
 -- an instruction that keeps the memory, and then the rest
 pub instruct : (k : Scene) (Q : State → Type 0) (s : State) (byte wait time : ℕ) (cs : List Command) (d : Decision) → byte < 256
-    → executed (s .mem) (decoded byte) (withBusy 0 (s .rec)) ≡ d → d .effect ≡ Keep → halfWrite (d .rec .half) ≡ false
+    → executed (s .mem) (decoded byte) (busyOver (s .rec)) ≡ d → d .effect ≡ Keep → halfWrite (d .rec .half) ≡ false
     → timeOf (instruction byte) ≡ time → Inv k s → Steady wait (s .rec)
     → (Inv k (after s d) → Safe k Q (after s d) (inHalves time cs)) → Safe k Q s (inHalves wait (instruction byte ∷ cs))
-unfolding inHalves badTransfer performed halfWrite
-instruct k Q s byte wait time cs d below does keep none takes inv steady rest =
-    let one : Decision = firstTold 0 (InstructionWrite (byte / 16)) (withBusy 0 (s .rec)) in
-    step-to k Q s (firstSent wait (instruction byte)) _ one (first-instruct s wait byte steady) inv refl (omega arith) (steady .busy)
-    (quiet k one refl refl)
-    (λ next. step-to k Q (after s one) (secondSent (instruction byte)) _ (ended true d)
-    (second-instruct s byte (steady .narrow) (steady .half) ∙ ap (ended true) does) next refl (omega arith) zero-le
-    (quiet k (ended true d) keep none)
-    (λ last. subst (λ (t : ℕ). Safe k Q (after s d) (inHalves t cs)) (sym takes) (rest last)))
-
-first-write : (s : State) (wait byte : ℕ) → Steady wait (s .rec)
-    → comesTo s (firstSent wait (write byte)) ≡ firstTold 0 (DataWrite (byte / 16)) (withBusy 0 (s .rec))
-unfolding comesTo begun firstHalf narrow
-first-write s wait byte steady =
-    narrowly (s .mem) 1 (highHalf byte) Empty (withBusy 0 (s .rec)) (steady .narrow) (steady .half)
-    ∙ ap (λ (high : ℕ). firstTold 0 (DataWrite high) (withBusy 0 (s .rec))) (high-of byte)
-
-second-write : (s : State) (byte : ℕ) → s .rec .wide ≡ false → s .rec .half ≡ Empty
-    → comesTo (after s (firstTold 0 (DataWrite (byte / 16)) (withBusy 0 (s .rec)))) (secondSent (write byte))
-    ≡ ended true (written byte (withBusy 0 (s .rec)))
-unfolding comesTo narrow secondHalf completed performed
-second-write s byte thin none =
-    narrowly (s .mem) 1 (lowHalf byte) (DataWrite (byte / 16)) (withHalf (DataWrite (byte / 16)) (withBusy 0 (s .rec))) thin refl
-    ∙ ap (λ (b : ℕ). ended true (written b (withHalf Empty (withBusy 0 (s .rec))))) (whole-of byte)
-    ∙ ap (λ (r : Record). ended true (written byte r)) (without (withBusy 0 (s .rec)) none)
+unfolding completed halfWrite badTransfer narrow begun firstHalf
+instruct k Q s byte wait time cs d below does keep none =
+    in-two instructing s byte k Q wait time cs d below does (quiet k (one instructing s byte) refl refl) (quiet k (ended false d) keep none)
 
 -- the wished byte of a named cell at the counter, and then the rest
 pub write-wished : (k : Scene) (Q : State → Type 0) (s : State) (byte wait time : ℕ) (cs : List Command) (d : Decision)
     → marked (k .marks) (placeOf (s .rec .counter)) ≡ true → byte ≡ getD (k .values) (placeOf (s .rec .counter)) 0
-    → written byte (withBusy 0 (s .rec)) ≡ d → d .effect ≡ Store (placeOf (s .rec .counter)) byte → d .rec .half ≡ Empty
+    → written byte (busyOver (s .rec)) ≡ d → d .effect ≡ Store (placeOf (s .rec .counter)) byte → d .rec .half ≡ Empty
     → timeOf (write byte) ≡ time → Inv k s → Steady wait (s .rec)
     → (Inv k (after s d) → Safe k Q (after s d) (inHalves time cs)) → Safe k Q s (inHalves wait (write byte ∷ cs))
-unfolding inHalves badTransfer performed
-write-wished k Q s byte wait time cs d mark wished does stores none takes inv steady rest =
-    let below : byte < 256 = subst (λ (b : ℕ). b < 256) (sym wished) (k .bytes (placeOf (s .rec .counter))) in
-    let one : Decision = firstTold 0 (DataWrite (byte / 16)) (withBusy 0 (s .rec)) in
-    step-to k Q s (firstSent wait (write byte)) _ one (first-write s wait byte steady) inv refl (omega arith) (steady .busy)
-    (record {
-      effect = Mild.keeps;
-      half = λ high is _. inr (mark, inr (half-wished high is));
-    })
-    (λ next. step-to k Q (after s one) (secondSent (write byte)) _ (ended true d)
-    (second-write s byte (steady .narrow) (steady .half) ∙ ap (ended true) does) next refl (omega arith) zero-le
+unfolding completed badTransfer narrow begun firstHalf
+write-wished k Q s byte wait time cs d mark wished does stores none =
+    in-two writing s byte k Q wait time cs d (subst (λ (b : ℕ). b < 256) (sym wished) (k .bytes (placeOf (s .rec .counter)))) does
+    (record { effect = Mild.keeps; half = λ high is _. inr (mark, inr (half-wished high is)) })
     (record {
       effect = subst (Mild k) (sym stores) (Mild.stores (placeOf (s .rec .counter)) byte (λ _. inr (mark, inl wished)));
       half = λ high is _. absurd (never-writes high (sym none ∙ is));
     })
-    (λ last. subst (λ (t : ℕ). Safe k Q (after s d) (inHalves t cs)) (sym takes) (rest last)))
   where
     half-wished : (high : ℕ) → DataWrite (byte / 16) ≡ DataWrite high → high * 16 + 3 ≡ highHalf (getD (k .values) (placeOf (s .rec .counter)) 0) + 3
     half-wished high is =

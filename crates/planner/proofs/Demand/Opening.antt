@@ -1,27 +1,26 @@
 -- The opening: from whatever state, four single transfers lead to width 4 with no half waiting.
 -- Assumes nothing.
-use mathlib.Core.Bool.{Bool, true, false, cond, false≢true}
-use mathlib.Core.List.{List, [], _∷_, _++_}
+use mathlib.Core.Bool.{Bool, true, false, false≢true}
+use mathlib.Core.List.{List, _∷_, _++_}
 use mathlib.Core.Logic.{_⊎_, inl, inr, ⊎-elim}
 use mathlib.Core.Path.{_≡_, refl, sym, ap, subst, _∙_}
-use Prim.Native.Nat.{ℕ, _+_, _*_, _/_, _≤_, _<_, zero-le}
+use Prim.Native.Nat.{ℕ, _+_, _*_, _≤_, zero-le}
 use native.Mathlib.Nat.{le-refl, le-trans}
 use native.Mathlib.Omega.{arith}
-use lib.Dec.{eqb}
-use Rattle.controller.proofs.Laws.Completed.{short-long, completed-half, completed-busy, instruct-keeps}
+use Rattle.controller.proofs.Laws.Completed.{short-long, completed-carried, instruct-keeps}
 use Rattle.controller.proofs.Laws.Kept.{wide-none}
 use Rattle.controller.proofs.Laws.Record.{sound-half, sound-busy}
+use Rattle.controller.proofs.Laws.Taken.{accepted-wide, accepted-narrow}
 use Rattle.controller.specs.Bus.{badTransfer}
 use Rattle.controller.specs.Cells.{placeOf}
 use Rattle.controller.specs.Execute.{shortTime, longTime, completed, executed, written, readOut}
-use Rattle.controller.specs.Halves.{accepted, narrow, begun, firstHalf, secondHalf}
+use Rattle.controller.specs.Halves.{narrow, begun, firstHalf, secondHalf}
 use Rattle.controller.specs.Instruction.{decoded, bit}
-use Rattle.controller.specs.Record.{resetTime, withBusy, withHalf}
+use Rattle.controller.specs.Record.{resetTime, busyOver, withHalf}
 use Rattle.controller.specs.declared.sent.Sent.{Sent}
 use Rattle.controller.specs.Runs.{State, after}
 use Rattle.controller.specs.declared.decision.Decision.{Decision}
-use Rattle.controller.specs.declared.decision.Effect.{Effect}
-use Rattle.controller.specs.declared.decision.Effect.the-variants.{Keep, Store}
+use Rattle.controller.specs.declared.decision.Effect.the-variants.{Keep}
 use Rattle.controller.specs.declared.execute.Transfer.{Transfer}
 use Rattle.controller.specs.declared.execute.Transfer.the-variants.{Instruct, Write, Status, Read}
 use Rattle.controller.specs.declared.«record».Half.{Half}
@@ -69,93 +68,81 @@ pub record Steady (time : ℕ) (rec : Record) : Type 0 where
   pub half : rec .half ≡ Empty
 
 -- a second half ends with no half waiting and busy for at most the long time
-ends : (mem : List ℕ) (t : Transfer) (rec : Record) → Found (completed mem t (withHalf Empty (withBusy 0 rec)) .rec)
+ends : (mem : List ℕ) (t : Transfer) (rec : Record) → Found (completed mem t (withHalf Empty (busyOver rec)) .rec)
 ends mem t rec =
-    (completed-busy mem t (withHalf Empty (withBusy 0 rec)) zero-le, inl (completed-half mem t (withHalf Empty (withBusy 0 rec))))
+    let known = completed-carried mem t (withHalf Empty (busyOver rec)) in (known .busy zero-le, inl (known .half))
 
-ends-quiet : (mem : List ℕ) (t : Transfer) (rec : Record) → halfWrite (completed mem t (withHalf Empty (withBusy 0 rec)) .rec .half) ≡ false
-ends-quiet mem t rec = empty-quiet _ (completed-half mem t (withHalf Empty (withBusy 0 rec)))
+ends-quiet : (mem : List ℕ) (t : Transfer) (rec : Record) → halfWrite (completed mem t (withHalf Empty (busyOver rec)) .rec .half) ≡ false
+ends-quiet mem t rec = empty-quiet _ (completed-carried mem t (withHalf Empty (busyOver rec)) .half)
+
+-- at width 8 a single instruction is complete at once, and at width 4 what waits decides
+module _ (P : Decision → Type 0) (s : State) (byte wait : ℕ) where
+  at-eight : s .rec .wide ≡ true → P (completed (s .mem) (begun 0 byte (busyOver (s .rec))) (busyOver (s .rec))) → P (comesTo s (single byte wait))
+  unfolding comesTo
+  at-eight wide p = subst P (sym (accepted-wide (s .mem) 0 byte (busyOver (s .rec)) wide)) p
+
+  at-four : (half : Half) → s .rec .wide ≡ false → s .rec .half ≡ half → P (narrow (s .mem) 0 byte half (busyOver (s .rec)))
+      → P (comesTo s (single byte wait))
+  unfolding comesTo
+  at-four half thin waits p = subst P (sym (accepted-narrow (s .mem) 0 byte half (busyOver (s .rec)) thin waits)) p
 
 -- 30h, the first time
 first-30 : (k : Scene) (s : State) (wait : ℕ) → Inv k s → Harmless k (comesTo s (single 0x30 wait)) × Found (comesTo s (single 0x30 wait) .rec)
-unfolding comesTo accepted narrow begun firstHalf secondHalf completed executed decoded bit written readOut halfWrite
+unfolding narrow begun firstHalf secondHalf completed executed decoded bit written readOut halfWrite
 first-30 k s wait inv = go (s .rec .wide) (s .rec .half) refl refl
   where
-    rec : Record
-    rec = withBusy 0 (s .rec)
-
     P : Decision → Type 0
     P d = Harmless k d × Found (d .rec)
 
-    go : (wide : Bool) (half : Half) → s .rec .wide ≡ wide → s .rec .half ≡ half
-        → P (cond wide (completed (s .mem) (begun 0 0x30 rec) rec) (narrow (s .mem) 0 0x30 half rec))
+    go : (wide : Bool) (half : Half) → s .rec .wide ≡ wide → s .rec .half ≡ half → P (comesTo s (single 0x30 wait))
     go true half w h =
         let none : s .rec .half ≡ Empty = wide-none (s .rec .wide) (s .rec .busy) (s .rec .half) w (sound-half (s .rec) (inv .sound)) in
-        (quiet k _ refl (empty-quiet _ none), (short-long, inl none))
-    go false Empty w h = (quiet k _ refl refl, (zero-le, inr (w, refl)))
-    go false (InstructionWrite high) w h = (
-      quiet k _ (instruct-keeps (s .mem) (high * 16 + 3) _ (λ e. omega arith)) (ends-quiet (s .mem) (Instruct (high * 16 + 3)) (s .rec)),
-      ends (s .mem) (Instruct (high * 16 + 3)) (s .rec),
-    )
-    go false (DataWrite high) w h = (
-      record {
-        effect = Mild.stores (placeOf (s .rec .counter)) (high * 16 + 3) (inv .half high h);
-        half = λ more is _. absurd (no-write _ (ends-quiet (s .mem) (Write (high * 16 + 3)) (s .rec)) more is);
-      },
-      ends (s .mem) (Write (high * 16 + 3)) (s .rec),
-    )
-    go false (StatusRead taken) w h = (quiet k _ refl refl, ends (s .mem) (Status taken) (s .rec))
-    go false (DataRead taken) w h = (quiet k _ refl refl, ends (s .mem) (Read taken) (s .rec))
+        at-eight P s 0x30 wait w (quiet k _ refl (empty-quiet _ none), (short-long, inl none))
+    go false Empty w h = at-four P s 0x30 wait Empty w h (quiet k _ refl refl, (zero-le, inr (w, refl)))
+    go false (InstructionWrite high) w h =
+        at-four P s 0x30 wait (InstructionWrite high) w h (
+          quiet k _ (instruct-keeps (s .mem) (high * 16 + 3) _ (λ e. omega arith)) (ends-quiet (s .mem) (Instruct (high * 16 + 3)) (s .rec)),
+          ends (s .mem) (Instruct (high * 16 + 3)) (s .rec),
+        )
+    go false (DataWrite high) w h =
+        at-four P s 0x30 wait (DataWrite high) w h (
+          record {
+            effect = Mild.stores (placeOf (s .rec .counter)) (high * 16 + 3) (inv .half high h);
+            half = λ more is _. absurd (no-write _ (ends-quiet (s .mem) (Write (high * 16 + 3)) (s .rec)) more is);
+          },
+          ends (s .mem) (Write (high * 16 + 3)) (s .rec),
+        )
+    go false (StatusRead taken) w h =
+        at-four P s 0x30 wait (StatusRead taken) w h (quiet k _ refl refl, ends (s .mem) (Status taken) (s .rec))
+    go false (DataRead taken) w h = at-four P s 0x30 wait (DataRead taken) w h (quiet k _ refl refl, ends (s .mem) (Read taken) (s .rec))
 
 -- 30h, the second time
 second-30 : (k : Scene) (s : State) (wait : ℕ) → Found (s .rec) → Harmless k (comesTo s (single 0x30 wait)) × Halfway (comesTo s (single 0x30 wait) .rec)
-unfolding comesTo accepted narrow begun firstHalf secondHalf completed executed decoded bit halfWrite
-second-30 k s wait found = ⊎-elim (λ none. go (s .rec .wide) (s .rec .half) refl refl none) (λ three. after-3 (three .0) (three .1)) (found .1)
+unfolding narrow begun firstHalf secondHalf completed executed decoded bit halfWrite
+second-30 k s wait found =
+    ⊎-elim (λ none. go (s .rec .wide) refl none)
+    (λ three. at-four P s 0x30 wait (InstructionWrite 3) (three .0) (three .1) (quiet k _ refl refl, (le-refl shortTime, inl (refl, refl)))) (found .1)
   where
-    rec : Record
-    rec = withBusy 0 (s .rec)
-
     P : Decision → Type 0
     P d = Harmless k d × Halfway (d .rec)
 
-    go : (wide : Bool) (half : Half) → s .rec .wide ≡ wide → s .rec .half ≡ half → s .rec .half ≡ Empty
-        → P (cond wide (completed (s .mem) (begun 0 0x30 rec) rec) (narrow (s .mem) 0 0x30 half rec))
-    go true half w h none = (quiet k _ refl (empty-quiet _ none), (le-refl shortTime, inl (refl, none)))
-    go false half w h none = subst (λ (x : Half). P (narrow (s .mem) 0 0x30 x rec)) (sym (sym h ∙ none)) (quiet k _ refl refl, (zero-le, inr (w, refl)))
-
-    after-3 : s .rec .wide ≡ false → s .rec .half ≡ InstructionWrite 3 → P (accepted (s .mem) 0 0x30 rec)
-    after-3 w h =
-        subst (λ (x : Bool). P (cond x (completed (s .mem) (begun 0 0x30 rec) rec) (narrow (s .mem) 0 0x30 (s .rec .half) rec))) (sym w)
-        (subst (λ (x : Half). P (narrow (s .mem) 0 0x30 x rec)) (sym h) (quiet k _ refl refl, (le-refl shortTime, inl (refl, refl))))
+    go : (wide : Bool) → s .rec .wide ≡ wide → s .rec .half ≡ Empty → P (comesTo s (single 0x30 wait))
+    go true w none = at-eight P s 0x30 wait w (quiet k _ refl (empty-quiet _ none), (le-refl shortTime, inl (refl, none)))
+    go false w none = at-four P s 0x30 wait Empty w none (quiet k _ refl refl, (zero-le, inr (w, refl)))
 
 -- 30h, the third time
 third-30 : (k : Scene) (s : State) (wait : ℕ) → Halfway (s .rec) → Harmless k (comesTo s (single 0x30 wait)) × Wide (comesTo s (single 0x30 wait) .rec)
-unfolding comesTo accepted narrow begun secondHalf completed executed decoded bit halfWrite
-third-30 k s wait halfway = ⊎-elim (λ at. wide (at .0) (at .1)) (λ at. after-3 (at .0) (at .1)) (halfway .1)
-  where
-    rec : Record
-    rec = withBusy 0 (s .rec)
-
-    P : Decision → Type 0
-    P d = Harmless k d × Wide (d .rec)
-
-    wide : s .rec .wide ≡ true → s .rec .half ≡ Empty → P (accepted (s .mem) 0 0x30 rec)
-    wide w none =
-        subst (λ (x : Bool). P (cond x (completed (s .mem) (begun 0 0x30 rec) rec) (narrow (s .mem) 0 0x30 (s .rec .half) rec))) (sym w)
-        (quiet k _ refl (empty-quiet _ none), (le-refl shortTime, refl, none))
-
-    after-3 : s .rec .wide ≡ false → s .rec .half ≡ InstructionWrite 3 → P (accepted (s .mem) 0 0x30 rec)
-    after-3 w h =
-        subst (λ (x : Bool). P (cond x (completed (s .mem) (begun 0 0x30 rec) rec) (narrow (s .mem) 0 0x30 (s .rec .half) rec))) (sym w)
-        (subst (λ (x : Half). P (narrow (s .mem) 0 0x30 x rec)) (sym h) (quiet k _ refl refl, (le-refl shortTime, refl, refl)))
+unfolding narrow begun secondHalf completed executed decoded bit halfWrite
+third-30 k s wait halfway =
+    let P : Decision → Type 0 = λ d. Harmless k d × Wide (d .rec) in
+    ⊎-elim (λ at. at-eight P s 0x30 wait (at .0) (quiet k _ refl (empty-quiet _ (at .1)), (le-refl shortTime, refl, at .1)))
+    (λ at. at-four P s 0x30 wait (InstructionWrite 3) (at .0) (at .1) (quiet k _ refl refl, (le-refl shortTime, refl, refl))) (halfway .1)
 
 -- 20h
 then-20 : (k : Scene) (s : State) (wait : ℕ) → Wide (s .rec) → Harmless k (comesTo s (single 0x20 wait)) × Steady shortTime (comesTo s (single 0x20 wait) .rec)
-unfolding comesTo accepted begun completed executed decoded bit
+unfolding begun completed executed decoded bit
 then-20 k s wait at =
-    let rec : Record = withBusy 0 (s .rec) in
-    let P : Decision → Type 0 = λ d. Harmless k d × Steady shortTime (d .rec) in
-    subst (λ (x : Bool). P (cond x (completed (s .mem) (begun 0 0x20 rec) rec) (narrow (s .mem) 0 0x20 (s .rec .half) rec))) (sym (at .1))
+    at-eight (λ d. Harmless k d × Steady shortTime (d .rec)) s 0x20 wait (at .1)
     (quiet k _ refl (empty-quiet _ (at .2)), record { busy = le-refl shortTime; narrow = refl; half = at .2 })
 
 -- four single transfers, each waiting as long as the controller can be busy, and then the rest

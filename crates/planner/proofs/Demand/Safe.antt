@@ -1,11 +1,11 @@
 -- What holds between any two transfers, and a list of transfers that is safe to send: whatever longer waits are taken, no
 -- transfer is answered 4 and that holds after each.
 -- Assumes nothing.
-use mathlib.Core.Bool.{Bool, true, false, _&&_}
+use mathlib.Core.Bool.{true, false}
 use mathlib.Core.List.{List, [], _∷_, _++_}
 use mathlib.Core.Logic.{_⊎_}
-use mathlib.Core.Path.{_≡_, refl, sym, ap, _∙_}
-use Prim.Native.Nat.{ℕ, _+_, _*_, _≤_, _<_}
+use mathlib.Core.Path.{_≡_, refl}
+use Prim.Native.Nat.{ℕ, _+_, _*_, _<_}
 use lib.ListN.{length, getD}
 use Rattle.controller.specs.Cells.{placeOf}
 use Rattle.controller.specs.Halves.{highHalf}

@@ -1,44 +1,35 @@
 -- The stages of a plan after its opening: set-up, shift, the marked cells one by one, and the ending.
 -- Assumes nothing.
-use mathlib.Core.Bool.{Bool, true, false, cond, not, _&&_, false≢true}
-use mathlib.Core.List.{List, [], _∷_, _++_, append-assoc}
-use mathlib.Core.Path.{_≡_, refl, sym, ap, subst, _∙_}
-use Prim.Native.Nat.{ℕ, zero, suc, _+_, _-_, _%_, _≤_, _<_}
-use native.Mathlib.Nat.{le-refl, le-trans, mod-eq-of-lt, eq-or-lt-of-le, le-of-suc-le-suc}
+use mathlib.Core.Bool.{Bool, true, false}
+use mathlib.Core.List.{List, _++_}
+use mathlib.Core.Path.{_≡_, refl, ap, _∙_}
+use Prim.Native.Nat.{ℕ, zero, suc, _+_, _-_, _<_}
+use native.Mathlib.Nat.{le-refl}
 use native.Mathlib.Omega.{arith}
-use lib.Dec.{eqb, ltb, leb}
-use lib.ListN.{length, getD, set, replicate}
-use lib.Seq.{getD-set-same, getD-set-other}
-use borrow.Author.Tests.{eqb-true, eqb-false, ltb-true, ltb-false, lt-ltb, le-ltb, le-leb, lt-leb, eq-eqb, ne-eqb, not-true}
-use Rattle.controller.proofs.Laws.Choice.{and-left, and-right}
-use Rattle.controller.proofs.Theorems.Cells.{addresses-match, wraps}
-use Rattle.controller.specs.Cells.{placeOf, byteUnder, wrapped, stepped, cellOfAdd, addOfCell, cellOfAcg}
-use Rattle.controller.specs.Decision.{performed, done}
-use Rattle.controller.specs.Execute.{shortTime, longTime, loaded, changed, shifted, homed, addressed, executed, carried, written}
+use lib.ListN.{replicate}
+use borrow.Author.Tests.{ne-eqb}
+use Rattle.controller.proofs.Theorems.Cells.{wraps}
+use Rattle.controller.specs.Cells.{wrapped}
+use Rattle.controller.specs.Decision.{done}
+use Rattle.controller.specs.Execute.{shortTime, longTime, changed, shifted, homed, executed}
 use Rattle.controller.specs.Instruction.{decoded, bit}
-use Rattle.controller.specs.Record.{withBusy, withFunction, withControl, withEntry, withCounter, withRegister}
-use Rattle.controller.specs.declared.sent.Sent.{Sent}
+use Rattle.controller.specs.Record.{busyOver, withFunction, withControl, withEntry}
 use Rattle.controller.specs.Runs.{State, after}
-use Rattle.controller.specs.declared.cells.Counter.{Counter}
-use Rattle.controller.specs.declared.cells.Counter.the-variants.{Display, Pattern}
 use Rattle.controller.specs.declared.decision.Decision.{Decision}
-use Rattle.controller.specs.declared.decision.Effect.the-variants.{Keep, Store}
+use Rattle.controller.specs.declared.decision.Effect.the-variants.{Keep}
 use Rattle.controller.specs.declared.instruction.Instruction.{Instruction}
-use Rattle.controller.specs.declared.instruction.Instruction.the-variants.{SetEntry, SetControl, SetFunction, Home, ShiftDisplay, PatternAddress, DisplayAddress}
+use Rattle.controller.specs.declared.instruction.Instruction.the-variants.{SetEntry, SetControl, SetFunction}
 use Rattle.controller.specs.declared.«record».Control.{Control}
 use Rattle.controller.specs.declared.«record».Entry.{Entry}
 use Rattle.controller.specs.declared.«record».Function.{Function}
-use Rattle.controller.specs.declared.«record».Half.the-variants.{Empty}
 use Rattle.controller.specs.declared.«record».Record.{Record}
-use Rattle.planner.proofs.Demand.Command.{instruct, write-wished}
+use Rattle.planner.proofs.Demand.Command.{instruct}
 use Rattle.planner.proofs.Demand.Opening.{Steady, empty-quiet}
-use Rattle.planner.proofs.Demand.Safe.{Scene, Inv, Safe, safe-end}
+use Rattle.planner.proofs.Demand.Safe.{Scene, Inv, Safe}
 use Rattle.planner.proofs.Laws.Wish.{worth-small}
-use Rattle.planner.proofs.Laws.Written.{cell-none, cell-next, cell-first}
 use Rattle.planner.specs.declared.wish.Wish.{Wish}
-use Rattle.planner.specs.Demand.{Stands}
-use Rattle.planner.specs.Plan.{Command, instruction, write, worth, setUp, addressByte, cell, cellsBelow, ending, commands, timeOf, inHalves}
-use Rattle.planner.specs.Wish.{marked, follows}
+use Rattle.planner.specs.Plan.{Command, instruction, worth, setUp, ending, commands, timeOf, inHalves}
+use Rattle.planner.specs.Wish.{marked}
 
 -- the bytes of the commands, read back as instructions
 function-byte : (n f : Bool) → decoded (0x20 + worth 0x08 n + worth 0x04 f) ≡ SetFunction false (record { n = n; f = f })
@@ -98,16 +89,16 @@ set-up-safe k Q wish s rest inv steady then =
     let n : Bool = wish .function .n in
     let f : Bool = wish .function .f in
     let byte : ℕ = 0x20 + worth 0x08 n + worth 0x04 f in
-    let d₁ : Decision = changed (withFunction false (wish .function) (withBusy 0 (s .rec))) in
+    let d₁ : Decision = changed (withFunction false (wish .function) (busyOver (s .rec))) in
     let s₁ : State = after s d₁ in
-    let d₂ : Decision = changed (withControl off (withBusy 0 (s₁ .rec))) in
+    let d₂ : Decision = changed (withControl off (busyOver (s₁ .rec))) in
     let s₂ : State = after s₁ d₂ in
-    let d₃ : Decision = changed (withEntry up (withBusy 0 (s₂ .rec))) in
+    let d₃ : Decision = changed (withEntry up (busyOver (s₂ .rec))) in
     let s₃ : State = after s₂ d₃ in
-    let d₄ : Decision = done longTime Keep (homed (withBusy 0 (s₃ .rec))) in
+    let d₄ : Decision = done longTime Keep (homed (busyOver (s₃ .rec))) in
     let st : Steady shortTime (d₁ .rec) = record { busy = le-refl shortTime; narrow = refl; half = steady .half } in
     instruct k Q s byte 100 shortTime _ d₁ (omega (arith, worth-small 0x08 n, worth-small 0x04 f))
-    (ap (λ (i : Instruction). executed (s .mem) i (withBusy 0 (s .rec))) (function-byte n f)) refl (empty-quiet _ (steady .half))
+    (ap (λ (i : Instruction). executed (s .mem) i (busyOver (s .rec))) (function-byte n f)) refl (empty-quiet _ (steady .half))
     (short-time byte (λ e. omega arith)) inv steady
     (λ inv₁. instruct k Q s₁ 0x08 shortTime shortTime _ d₂ (omega arith) refl refl (empty-quiet _ (steady .half)) (short-time 0x08 (λ e. omega arith)) inv₁ st
     (λ inv₂. instruct k Q s₂ 0x06 shortTime shortTime _ d₃ (omega arith) refl refl (empty-quiet _ (steady .half)) (short-time 0x06 (λ e. omega arith)) inv₂
@@ -127,7 +118,7 @@ shift-safe k Q wish zero moved total rest sum below then wait s inv steady shape
     let all : moved ≡ total = omega arith in
     then wait s inv steady (record { function = shaped .function; control = shaped .control; entry = shaped .entry; shift = shaped .shift ∙ all })
 shift-safe k Q wish (suc more) moved total rest sum below then wait s inv steady shaped =
-    let d : Decision = changed (shifted true (withBusy 0 (s .rec))) in
+    let d : Decision = changed (shifted true (busyOver (s .rec))) in
     let one-on : wrapped 80 true (s .rec .shift) ≡ moved + 1 =
     ap (wrapped 80 true) (shaped .shift) ∙ wraps 80 moved (omega arith) .0 ∙ rw (ne-eqb (moved + 1) 80 (λ e. omega arith)) refl in
     instruct k Q s 0x18 wait shortTime _ d (omega arith) refl refl (empty-quiet _ (steady .half)) (short-time 0x18 (λ e. omega arith)) inv steady

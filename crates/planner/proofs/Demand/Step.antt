@@ -1,88 +1,37 @@
 -- One transfer of a plan: once its wait covers the busy time it is taken, whatever the wait, and what it does is known.
 -- Assumes nothing.
-use mathlib.Core.Bool.{Bool, true, false, not, false≢true}
-use mathlib.Core.List.{List, [], _∷_}
-use mathlib.Core.Logic.{_⊎_, inl, inr, ⊎-elim}
+use mathlib.Core.Bool.{Bool, true, false, false≢true}
+use mathlib.Core.List.{List, _∷_}
 use mathlib.Core.Path.{_≡_, refl, sym, ap, subst, _∙_}
 use Prim.Native.Nat.{ℕ, _+_, _-_, _*_, _≤_, _<_}
-use native.Mathlib.Nat.{le-refl, le-trans, sub-eq-zero-of-le}
+use native.Mathlib.Nat.{le-refl, le-trans}
 use native.Mathlib.Omega.{arith}
 use lib.Dec.{eqb}
-use lib.ListN.{length, getD, set}
+use lib.ListN.{getD, set}
 use lib.Seq.{getD-set-same, getD-set-other}
 use borrow.Author.Tests.{eqb-true, eqb-false}
 use Rattle.controller.proofs.Laws.Memory.{performed-length}
+use Rattle.controller.proofs.Laws.Record.{waited-over}
 use Rattle.controller.proofs.Laws.Taken.{covered, taken}
-use Rattle.controller.proofs.Theorems.Answers.{transfer-answers}
+use Rattle.controller.proofs.Theorems.Answers.{four-waits}
 use Rattle.controller.proofs.Theorems.Sound.{transfer-keeps-sound}
-use Rattle.controller.specs.Bus.{badTransfer, mustWait}
+use Rattle.controller.specs.Bus.{badTransfer}
 use Rattle.controller.specs.Cells.{placeOf}
 use Rattle.controller.specs.Decision.{performed}
 use Rattle.controller.specs.Halves.{accepted}
-use Rattle.controller.specs.Record.{sound, waited, withBusy}
-use Rattle.controller.specs.Answers.{Row, Given}
-use Rattle.controller.specs.Rows.{transferRows}
+use Rattle.controller.specs.Record.{sound, busyOver}
 use Rattle.controller.specs.declared.sent.Sent.{Sent}
-use Rattle.controller.specs.Runs.{State, decidedOf, after, toldOf}
+use Rattle.controller.specs.Runs.{State, decidedOf, after}
 use Rattle.controller.specs.declared.decision.Decision.{Decision}
 use Rattle.controller.specs.declared.decision.Effect.{Effect}
 use Rattle.controller.specs.declared.decision.Effect.the-variants.{Keep, Store}
 use Rattle.controller.specs.declared.«record».Half.the-variants.{DataWrite}
-use Rattle.controller.specs.declared.«record».Record.{Record}
-use Rattle.planner.proofs.Demand.Safe.{Scene, Holds, Inv, Fine, Safe, safe-more}
+use Rattle.planner.proofs.Demand.Safe.{Scene, Holds, Inv, Safe, safe-more}
 use Rattle.planner.specs.Demand.{AsAsked, excepted}
-
--- no row that applies has this number
-abbrev NoRow : ℕ → List Row → Type 0
-NoRow n [] = n ≡ 0 → ⊥
-NoRow n (row ∷ rows) = (row .applies ≡ true → row .number ≡ n → ⊥) × NoRow n rows
-
-none-given : (n : ℕ) (rows : List Row) → NoRow n rows → Given n rows → ⊥
-unfolding Given
-none-given n [] none given = none given
-none-given n (row ∷ rows) none given = ⊎-elim (λ here. none .0 (here .0) (here .1)) (λ there. none-given n rows (none .1) (there .1)) given
-
--- what does not have to wait is not answered 4
-not-busy : (s : State) (t : Sent) → mustWait (t .kind) (waited (t .wait) (s .rec)) ≡ false → toldOf (decidedOf s t) .answer ≡ 4 → ⊥
-unfolding transferRows
-not-busy s t may four =
-    none-given 4 (transferRows (s .rec) (s .mem) (t .kind) (t .byte) (t .wait)) (
-      (λ _ e. omega arith),
-      (
-        (λ _ e. omega arith),
-        (
-          (λ _ e. omega arith),
-          (
-            (λ waits e. false≢true (sym may ∙ waits)),
-            (
-              (λ _ e. omega arith),
-              (
-                (λ _ e. omega arith),
-                (
-                  (λ _ e. omega arith),
-                  (
-                    (λ _ e. omega arith),
-                    (
-                      (λ _ e. omega arith),
-                      (λ e. omega arith),
-                    ),
-                  ),
-                ),
-              ),
-            ),
-          ),
-        ),
-      ),
-    )
-    (transfer-answers (s .rec) (s .mem) (t .kind) (t .byte) (t .wait) 4 .0 four)
-
--- a wait that covers the busy time leaves none, however long it is
-rested : (wait : ℕ) (rec : Record) → rec .busy ≤ wait → waited wait rec ≡ withBusy 0 rec
-rested wait rec over = ap (λ (b : ℕ). withBusy b rec) (sub-eq-zero-of-le over)
 
 -- what a planned transfer comes to
 unfoldable pub comesTo : State → Sent → Decision
-comesTo s asked = accepted (s .mem) (asked .kind) (asked .byte) (withBusy 0 (s .rec))
+comesTo s asked = accepted (s .mem) (asked .kind) (asked .byte) (busyOver (s .rec))
 
 as-planned : (k : Scene) (s : State) (asked t : Sent) → Inv k s → badTransfer (asked .kind) (asked .byte) ≡ false → s .rec .busy ≤ asked .wait
     → AsAsked asked t → decidedOf s t ≡ comesTo s asked
@@ -91,9 +40,9 @@ as-planned k s asked t inv good over sent =
     let long : s .rec .busy ≤ t .wait = le-trans over (sent .wait) in
     let fits : badTransfer (t .kind) (t .byte) ≡ false = rw (sent .kind, sent .byte) good in
     taken (s .rec) (s .mem) (t .kind) (t .byte) (t .wait) (inv .sound) (inv .whole) fits (covered (t .kind) (t .wait) (s .rec) long)
-    ∙ ap (accepted (s .mem) (t .kind) (t .byte)) (rested (t .wait) (s .rec) long)
-    ∙ ap (λ (x : ℕ). accepted (s .mem) x (t .byte) (withBusy 0 (s .rec))) (sent .kind)
-    ∙ ap (λ (x : ℕ). accepted (s .mem) (asked .kind) x (withBusy 0 (s .rec))) (sent .byte)
+    ∙ ap (accepted (s .mem) (t .kind) (t .byte)) (waited-over (t .wait) (s .rec) long)
+    ∙ ap (λ (x : ℕ). accepted (s .mem) x (t .byte) (busyOver (s .rec))) (sent .kind)
+    ∙ ap (λ (x : ℕ). accepted (s .mem) (asked .kind) x (busyOver (s .rec))) (sent .byte)
 
 -- an effect that leaves in each cell a byte that it may hold
 pub data Mild (k : Scene) : Effect → Type 0 where
@@ -141,7 +90,7 @@ step k Q s asked plan inv good byte over harmless rest =
     (λ t sent.
     let is : decidedOf s t ≡ comesTo s asked = as-planned k s asked t inv good over sent in (
       record {
-        free = not-busy s t (covered (t .kind) (t .wait) (s .rec) (le-trans over (sent .wait)));
+        free = λ four. false≢true (sym (covered (t .kind) (t .wait) (s .rec) (le-trans over (sent .wait))) ∙ four-waits (s .rec) (s .mem) (t .kind) (t .byte) (t .wait) four);
         inv = subst (λ (d : Decision). Inv k (after s d)) (sym is) next;
       },
       subst (λ (d : Decision). Safe k Q (after s d) plan) (sym is) (rest next),

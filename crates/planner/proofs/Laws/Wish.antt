@@ -1,9 +1,9 @@
 -- Laws of wishes: the marks one by one, and what an accepted wish tells.
 -- Assumes nothing.
 use mathlib.Core.Bool.{Bool, true, false, not, _&&_}
-use mathlib.Core.List.{List, [], _∷_}
-use mathlib.Core.Path.{_≡_, refl, sym, ap, _∙_}
-use Prim.Native.Nat.{ℕ, suc, _+_, _<_, _≤_}
+use mathlib.Core.List.{List}
+use mathlib.Core.Path.{_≡_, sym, ap, _∙_}
+use Prim.Native.Nat.{ℕ, _+_, _<_, _≤_}
 use native.Mathlib.Numerals.{add-one}
 use native.Mathlib.Omega.{arith}
 use lib.Dec.{leb, ltb}
@@ -41,7 +41,6 @@ wish-cursor wish marks is =
     (and-left _ _ (and-right (ltb (wish .shift) (lineLength (wish .function .n))) _ (and-right (not (wish .function .n && wish .function .f)) _ is)))
 
 length-small : (n : Bool) → lineLength n ≤ 80
-unfolding lineLength
 length-small false = omega arith
 length-small true = omega arith
 

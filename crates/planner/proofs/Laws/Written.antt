@@ -1,13 +1,13 @@
 -- Laws of writing: what is written in two goes is what is written in one.
 -- Assumes nothing.
 use mathlib.Core.Bool.{Bool, true, false}
-use mathlib.Core.List.{List, [], _∷_, _++_, append-nil, append-assoc}
+use mathlib.Core.List.{List, [], _∷_, _++_}
 use mathlib.Core.Path.{_≡_, refl, sym, ap, _∙_}
 use Prim.Native.Nat.{ℕ, suc, _+_, _*_, _≤_}
 use native.Mathlib.Nat.{zero-add, add-zero, add-suc, suc-add}
 use native.Mathlib.Omega.{arith}
 use native.Mathlib.Numerals.{add-one}
-use lib.ListN.{length, set, take, drop, getD, length-append}
+use lib.ListN.{length, set, drop, getD, length-append}
 use lib.Seq.{sets, length-sets, sets-eq}
 use Rattle.controller.specs.declared.sent.Sent.{Sent}
 use Rattle.planner.specs.Wish.{marked, follows}

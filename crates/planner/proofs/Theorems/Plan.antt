@@ -1,23 +1,22 @@
 -- The theorems of the plan: its length, P12, the exception, and the bytes read back.
 -- Assumes nothing.
-use mathlib.Core.Bool.{Bool, true, false, not, _&&_}
+use mathlib.Core.Bool.{true, false, not, _&&_}
 use mathlib.Core.List.{List, [], _∷_, _++_}
 use mathlib.Core.Path.{_≡_, refl, sym, ap, _∙_}
-use Prim.Native.Nat.{ℕ, _+_, _*_, _/_, _%_, _≤_, _<_}
-use native.Mathlib.Nat.{div-div-eq-div-mul, mod-add-div, mod-eq-of-lt}
+use Prim.Native.Nat.{ℕ, _+_, _<_}
 use native.Mathlib.Omega.{arith}
 use lib.Dec.{eqb, ltb}
 use borrow.Author.Tests.{not-false}
 use Rattle.controller.proofs.Laws.Choice.{cond-elim}
-use lib.ListN.{length, getD, drop, replicate}
-use Rattle.controller.specs.Bus.{whole, badTransfer, mustWait, noHalf, decided, ordered}
-use Rattle.controller.specs.Cells.{placeOf, byteUnder, onCell, wrapped, stepped, lineLength, cellOfAdd, addOfCell, cellOfAcg, acgOfCell, addressSet, addressOf}
+use lib.ListN.{length, drop}
+use Rattle.controller.specs.Bus.{whole, badTransfer, mustWait, decided, ordered}
+use Rattle.controller.specs.Cells.{placeOf, byteUnder, onCell, wrapped, stepped, cellOfAdd, addOfCell, addressSet, addressOf}
 use Rattle.controller.specs.Answers.{numberOf}
 use Rattle.controller.specs.Decision.{performed, blanked}
 use Rattle.controller.specs.Execute.{shortTime, longTime, cursorAt, addressed, executed, carried, written, readOut, statusOf, completed}
 use Rattle.controller.specs.Halves.{begun, firstHalf, crossed, secondHalf, narrow, accepted}
 use Rattle.controller.specs.Instruction.{bit, decoded}
-use Rattle.controller.specs.Record.{resetTime, resetRecord, halfSound, sound, withBusy, withHalf, withFunction}
+use Rattle.controller.specs.Record.{resetTime, resetRecord, halfSound, sound, waited, busyOver, withHalf, withFunction}
 use Rattle.controller.specs.declared.sent.Sent.{Sent}
 use Rattle.controller.specs.Runs.{State, ran}
 use Rattle.controller.specs.declared.answers.Answer.{Answer}
@@ -28,7 +27,7 @@ use Rattle.planner.specs.declared.call.Planned.{Planned}
 use Rattle.planner.specs.declared.wish.Wish.{Wish}
 use Rattle.planner.specs.Call.{Reply, wanted, replyTo, laidOut}
 use Rattle.planner.specs.Demand.{halfWrite, excepted}
-use Rattle.controller.specs.Sent.{numberFrom}
+use Rattle.controller.proofs.Laws.Sent.{four-bytes}
 use Rattle.planner.specs.Plan.{Command, worth, counterAt, addressByte, cell, cellsBelow, commands, timeOf, inHalves, planOf, encoded}
 use Rattle.planner.specs.Theorems.{AtMost468, Reaches468, P12, ExceptionNeeded, BoardSendsPlan, all, readBack}
 use Rattle.planner.specs.Wish.{marksFit, isWish, marked, follows}
@@ -37,19 +36,19 @@ pub at-most-468 : AtMost468
 at-most-468 = plan-bound
 
 pub reaches-468 : Reaches468
-unfolding isWish marksFit lineLength worth addressByte counterAt addressSet addOfCell acgOfCell cell cellsBelow commands timeOf inHalves planOf marked follows shortTime longTime
+unfolding isWish marksFit worth addressByte counterAt addressSet addOfCell cell cellsBelow commands timeOf inHalves planOf marked follows shortTime longTime
 reaches-468 = (refl, refl)
 
 pub p12 : P12
-unfolding worth addressByte counterAt addressSet addOfCell acgOfCell cell cellsBelow commands timeOf inHalves planOf marked follows shortTime longTime
+unfolding worth addressByte counterAt addressSet addOfCell cell cellsBelow commands timeOf inHalves planOf marked follows shortTime longTime
 p12 values = refl
 
 -- a controller that waits for the second half of a data write to display cell 0
 waiting : State
-waiting = record { rec = withHalf (DataWrite 4) (withBusy 0 (withFunction false (record { n = false; f = false }) resetRecord)); mem = all 0x20 }
+waiting = record { rec = withHalf (DataWrite 4) (busyOver (withFunction false (record { n = false; f = false }) resetRecord)); mem = all 0x20 }
 
 pub exception-needed : ExceptionNeeded
-unfolding waiting excepted halfWrite worth addressByte counterAt addressSet addOfCell acgOfCell cell cellsBelow commands timeOf inHalves planOf marked follows shortTime longTime ran decided ordered whole sound halfSound onCell resetTime resetRecord badTransfer mustWait noHalf accepted begun narrow firstHalf secondHalf crossed completed executed decoded bit written carried stepped wrapped placeOf byteUnder readOut statusOf addressOf cellOfAdd cellOfAcg addressed cursorAt performed blanked
+unfolding waiting excepted halfWrite worth addressByte counterAt addressSet addOfCell cell cellsBelow commands timeOf inHalves planOf marked follows shortTime longTime ran decided ordered waited sound halfSound onCell resetTime resetRecord badTransfer mustWait accepted begun narrow firstHalf secondHalf crossed completed executed decoded bit written carried stepped wrapped placeOf byteUnder readOut statusOf addressOf cellOfAdd addressed cursorAt performed blanked whole
 exception-needed = (waiting, refl, refl, refl, refl, refl)
 
 -- every wait fits its four bytes
@@ -59,7 +58,7 @@ SmallWaits (t ∷ ts) = (t .wait < 4294967296) × SmallWaits ts
 
 time-small : (c : Command) → timeOf c < 4294967296
 unfolding timeOf shortTime longTime
-time-small c = cond-elim (λ (t : ℕ). t < 4294967296) (eqb (c .kind) 0 && eqb (c .byte) 0x02) 1640 40 (λ _. omega arith) (λ _. omega arith)
+time-small c = cond-elim (λ (t : ℕ). t < 4294967296) (eqb (c .kind) 0 && eqb (c .byte) 0x02) longTime shortTime (λ _. omega arith) (λ _. omega arith)
 
 halves-small : (before : ℕ) (cs : List Command) → before < 4294967296 → SmallWaits (inHalves before cs)
 unfolding inHalves SmallWaits
@@ -69,24 +68,6 @@ halves-small before (c ∷ cs) small = (small, (omega arith, halves-small (timeO
 plan-small : (wish : Wish) (marks values : List ℕ) → SmallWaits (planOf wish marks values)
 unfolding planOf SmallWaits
 plan-small wish marks values = (omega arith, (omega arith, (omega arith, (omega arith, halves-small 100 (commands wish marks values) (omega arith)))))
-
--- a number by its bytes, one after the other
-bytes-of : (w a b c d q r : ℕ) → a + 256 * q ≡ w → b + 256 * r ≡ q → c + 256 * d ≡ r → numberFrom a b c d ≡ w
-bytes-of w a b c d q r first second third = omega arith
-
--- four bytes read back
-pub four-bytes : (wait : ℕ) → wait < 4294967296
-    → numberFrom (wait % 256) (wait / 256 % 256) (wait / 65536 % 256) (wait / 16777216 % 256) ≡ wait
-four-bytes wait small =
-    let second : wait / 65536 ≡ wait / 256 / 256 = sym (div-div-eq-div-mul wait 256 256) in
-    let third : wait / 16777216 ≡ wait / 65536 / 256 = sym (div-div-eq-div-mul wait 65536 256) in
-    let sum : numberFrom (wait % 256) (wait / 256 % 256) (wait / 256 / 256 % 256) (wait / 256 / 256 / 256) ≡ wait =
-    bytes-of wait _ _ _ _ (wait / 256) (wait / 256 / 256) (mod-add-div wait 256) (mod-add-div (wait / 256) 256) (mod-add-div (wait / 256 / 256) 256) in
-    let top : wait / 256 / 256 / 256 % 256 ≡ wait / 256 / 256 / 256 = mod-eq-of-lt (top-small _ _ wait sum small) in
-    rw (third, second, top) sum
-  where
-    top-small : (rest d w : ℕ) → rest + d * 16777216 ≡ w → w < 4294967296 → d < 256
-    top-small rest d w sum below = omega arith
 
 -- records read back
 read-back : (ts : List Sent) (rest : List ℕ) → SmallWaits ts → readBack (length ts) (encoded ts ++ rest) ≡ ts

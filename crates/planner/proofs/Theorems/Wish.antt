@@ -4,7 +4,7 @@ use mathlib.Core.Bool.{Bool, true, false, cond, not, _&&_, and-false, true≢fal
 use mathlib.Core.List.{List, [], _∷_}
 use mathlib.Core.Logic.{_⊎_, inl, inr, ⊎-elim}
 use mathlib.Core.Path.{_≡_, refl, sym, ap, _∙_}
-use Prim.Native.Nat.{ℕ, _≤_, _<_}
+use Prim.Native.Nat.{ℕ}
 use lib.Dec.{ltb, leb}
 use lib.ListN.{length}
 use borrow.Author.Tests.{ltb-false, leb-false, le-ltb, lt-leb, not-false}
@@ -13,11 +13,11 @@ use Rattle.controller.proofs.Laws.Answers.{first, given}
 use Rattle.controller.specs.Bus.{whole}
 use Rattle.controller.specs.Cells.{lineLength}
 use Rattle.controller.specs.Answers.{numberOf}
-use Rattle.controller.specs.declared.answers.Answer.the-variants.{Done, NotWhole, OutputShort, NotWish}
+use Rattle.controller.specs.declared.answers.Answer.the-variants.{NotWhole}
 use Rattle.planner.specs.declared.call.Planned.{Planned}
 use Rattle.planner.specs.declared.wish.Wish.{Wish}
-use Rattle.planner.specs.Call.{Reply, wanted, turnedDown, replyTo, laidOut, Plans}
-use Rattle.planner.specs.Plan.{planOf, encoded}
+use Rattle.planner.specs.Call.{Reply, wanted, turnedDown, replyTo, laidOut}
+use Rattle.planner.specs.Plan.{encoded}
 use Rattle.planner.specs.Theorems.{planRows, PlanAnswers, MarkAbove, NotWishes, PlanRefusals, OnePlan}
 use Rattle.planner.specs.Wish.{marksFit, isWish}
 

@@ -1,3 +1,6 @@
+-- `controller::answers::is_refusal` meets its contract: the four numbers that are none are tested one after the other, and 8
+-- last.
+-- Assumes nothing.
 use Rattle.controller.specs.Answers.{isRefusal}
 use borrow.Author.Tests.{eq-eqb, ne-eqb}
 use borrow.Author.Needs.{needs}

@@ -1,5 +1,5 @@
--- `controller::bus::decide` meets its contract: the refusals come in the order of `decided`, and a sound record is
--- ready after the wait.
+-- `controller::bus::decide` meets its contract: refusals 1, 2 and 3 come before the wait, and a sound record with a whole
+-- memory is ready for the rules after it.
 -- Assumes nothing.
 use Rattle.controller.proofs.Laws.Record.{ready, waited-sound}
 use Rattle.controller.specs.Bus.{decided}

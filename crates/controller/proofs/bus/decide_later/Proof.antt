@@ -1,5 +1,4 @@
--- `controller::bus::decide_later` meets its contract: at each return what led there says which case of `ordered`
--- holds.
+-- `controller::bus::decide_later` meets its contract: 4 comes before 9, and what is left over is accepted.
 -- Assumes nothing.
 use Rattle.controller.specs.Bus.{ordered}
 use borrow.Author.Tests.{not-true, not-false}

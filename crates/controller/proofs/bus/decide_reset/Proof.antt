@@ -1,5 +1,4 @@
--- `controller::bus::decide_reset` meets its contract: at each return what led there says which case of `resetDecided`
--- holds.
+-- `controller::bus::decide_reset` meets its contract: the memory's length alone decides between the reset record and refusal 2.
 -- Assumes nothing.
 use Rattle.controller.specs.Bus.{resetDecided}
 use mathlib.Core.Path.{sym, _∙_}

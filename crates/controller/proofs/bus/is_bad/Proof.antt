@@ -1,4 +1,4 @@
--- `controller::bus::is_bad` meets its contract: at each return what led there says which case of `badTransfer` holds.
+-- `controller::bus::is_bad` meets its contract: a kind above 3 is bad at once; of the others only a read looks at the byte.
 -- Assumes nothing.
 use Rattle.controller.specs.Bus.{badTransfer}
 use borrow.Author.Tests.{lt-ltb, le-ltb, le-leb, lt-leb}

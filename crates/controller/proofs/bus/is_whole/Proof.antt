@@ -1,4 +1,4 @@
--- `controller::bus::is_whole` meets its contract: at each return what led there says which case of `whole` holds.
+-- `controller::bus::is_whole` meets its contract: the length is the one that `whole` asks for.
 -- Assumes nothing.
 use Rattle.controller.specs.Bus.{whole}
 use mathlib.Core.Path.{refl}

@@ -1,4 +1,4 @@
--- `controller::bus::must_wait` meets its contract: at each return what led there says which case of `mustWait` holds.
+-- `controller::bus::must_wait` meets its contract: the half is looked at first, and only without one busy and the kind.
 -- Assumes nothing.
 use Rattle.controller.specs.Bus.{mustWait}
 use borrow.Author.Tests.{lt-ltb, le-ltb}

@@ -1,5 +1,4 @@
--- `controller::cells::add_of_cell` meets its contract: at each return what led there says which case of `addOfCell`
--- holds.
+-- `controller::cells::add_of_cell` meets its contract: with N=1 the cells of line 2 are 24 higher, which still fits a byte.
 -- Assumes nothing.
 use Rattle.controller.specs.Cells.{addOfCell}
 use borrow.Author.Tests.{lt-ltb, le-ltb}

@@ -6,7 +6,7 @@ use native.Mathlib.Omega.{arith}
 use Rattle.controller.proofs.Laws.Cells.{counted-below}
 use Rattle.controller.specs.declared.cells.Acg.{Acg}
 use Rattle.controller.specs.declared.cells.Add.{Add}
-use Rattle.controller.specs.Cells.{acgOfCell, addressSet}
+use Rattle.controller.specs.Cells.{addressSet}
 use borrow.Author.Needs.{needs}
 use Rattle.controller.proofs.cells.address_set.Statement.{statement}
 use Rattle.controller.proofs.cells.address_set.Tie as tie
@@ -29,7 +29,6 @@ acg-of-cell-requires : tie.Need-acg-of-cell-requires
 acg-of-cell-requires c κs = search needs
 
 add-result-2 : tie.Need-add-result-2
-unfolding acgOfCell
 add-result-2 c = omega (arith, ap (λ (a : Acg). a .0) (c .before .acg-of-cell .ensures))
 
 returns : tie.Need-returns

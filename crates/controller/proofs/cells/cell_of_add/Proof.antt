@@ -1,5 +1,5 @@
--- `controller::cells::cell_of_add` meets its contract: at each return what led there says which case of `cellOfAdd`
--- holds.
+-- `controller::cells::cell_of_add` meets its contract: each range of addresses gives its cell, and what lies in no range gives
+-- none.
 -- Assumes nothing.
 use Rattle.controller.specs.Cells.{cellOfAdd}
 use borrow.Author.Tests.{lt-ltb, le-ltb, le-leb, lt-leb}

@@ -1,4 +1,4 @@
--- `controller::cells::on_cell` meets its contract: at each return what led there says which case of `onCell` holds.
+-- `controller::cells::on_cell` meets its contract: each memory has its own limit, 80 or 64.
 -- Assumes nothing.
 use Rattle.controller.specs.Cells.{onCell}
 use borrow.Author.Needs.{needs}

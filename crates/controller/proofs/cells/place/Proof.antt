@@ -1,4 +1,4 @@
--- `controller::cells::place` meets its contract: at each return what led there says which case of `placeOf` holds.
+-- `controller::cells::place` meets its contract: a pattern cell stands 80 places further on, and no place overflows.
 -- Assumes nothing.
 use Rattle.controller.specs.Cells.{placeOf}
 use borrow.Author.Needs.{needs}

@@ -1,4 +1,4 @@
--- `controller::cells::wrap` meets its contract: at each return what led there says which case of `wrapped` holds.
+-- `controller::cells::wrap` meets its contract: one up or down stays within a byte before the remainder is taken.
 -- Assumes nothing.
 use Rattle.controller.specs.Cells.{wrapped}
 use borrow.Author.Needs.{needs}

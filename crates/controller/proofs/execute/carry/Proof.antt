@@ -1,4 +1,4 @@
--- `controller::execute::carry` meets its contract: at each return what led there says which case of `carried` holds.
+-- `controller::execute::carry` meets its contract: only in display memory, and only with S=1, does the shift move.
 -- Assumes nothing.
 use Rattle.controller.specs.Execute.{carried}
 use borrow.Author.Needs.{needs}

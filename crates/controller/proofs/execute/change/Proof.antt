@@ -1,5 +1,4 @@
--- `controller::execute::change` meets its contract: at each return what led there says which case of `shortTime`
--- holds.
+-- `controller::execute::change` meets its contract: the time is the short one.
 -- Assumes nothing.
 use Rattle.controller.specs.Execute.{shortTime}
 use borrow.Author.Needs.{needs}

@@ -1,5 +1,5 @@
--- `controller::execute::complete` meets its contract: at each return what led there says which case of `completed`
--- holds.
+-- `controller::execute::complete` meets its contract: each kind of transfer has its own rule, and the record is ready for all
+-- of them.
 -- Assumes nothing.
 use Rattle.controller.specs.Execute.{completed}
 use borrow.Author.Needs.{needs}

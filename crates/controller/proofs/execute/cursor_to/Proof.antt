@@ -1,3 +1,6 @@
+-- `controller::execute::cursor_to` meets its contract: the counter that is placed is on a cell, so that in display memory the
+-- register can be loaded from it.
+-- Assumes nothing.
 use Rattle.controller.specs.Cells.{onCell}
 use Rattle.controller.specs.declared.«record».Record.{Record}
 use mathlib.Core.Path.{ap, _∙_}

@@ -1,3 +1,6 @@
+-- `controller::execute::execute` meets its contract: each row of the table ends in its own case of `executed`; where the
+-- counter moves it lands on a cell.
+-- Assumes nothing.
 use Rattle.controller.proofs.Laws.Cells.{stepped-on, acg-on, named-within}
 use Rattle.controller.specs.declared.cells.Counter.the-variants.{Pattern}
 use Rattle.controller.specs.Cells.{onCell}

@@ -1,3 +1,6 @@
+-- `controller::execute::go_to` meets its contract: a display address that names a cell names one below 80, so that the register
+-- can be loaded from it.
+-- Assumes nothing.
 use Rattle.controller.proofs.Laws.Cells.{display-on}
 use Rattle.controller.specs.Cells.{onCell}
 use Rattle.controller.specs.declared.«record».Record.{Record}

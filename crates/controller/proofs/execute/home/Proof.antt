@@ -1,3 +1,5 @@
+-- `controller::execute::home` meets its contract: shift 0 first, then the counter, then the register.
+-- Assumes nothing.
 use borrow.Author.Needs.{needs}
 use Rattle.controller.proofs.execute.home.Statement.{statement}
 use Rattle.controller.proofs.execute.home.Tie as tie

@@ -1,3 +1,5 @@
+-- `controller::execute::load_register` meets its contract: the byte loaded is the one under the record's own counter.
+-- Assumes nothing.
 use Rattle.controller.specs.Cells.{byteUnder}
 use borrow.Author.Needs.{needs}
 use Rattle.controller.proofs.execute.load_register.Statement.{statement}

@@ -1,5 +1,4 @@
--- `controller::execute::long_time` meets its contract: at each return what led there says which case of `longTime`
--- holds.
+-- `controller::execute::long_time` meets its contract: the number is `longTime`.
 -- Assumes nothing.
 use Rattle.controller.specs.Execute.{longTime}
 use mathlib.Core.Path.{refl}

@@ -1,3 +1,5 @@
+-- `controller::execute::move_on` meets its contract: the counter is on a cell, so that a step from it is a step in its ring.
+-- Assumes nothing.
 use Rattle.controller.specs.Cells.{stepped}
 use borrow.Author.Needs.{needs}
 use Rattle.controller.proofs.execute.move_on.Statement.{statement}

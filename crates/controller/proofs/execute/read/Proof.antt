@@ -1,3 +1,6 @@
+-- `controller::execute::read` meets its contract: the step leaves the counter on a cell, so that the register can be loaded
+-- from there.
+-- Assumes nothing.
 use Rattle.controller.proofs.Laws.Cells.{stepped-on}
 use Rattle.controller.specs.Cells.{onCell}
 use Rattle.controller.specs.declared.«record».Record.{Record}

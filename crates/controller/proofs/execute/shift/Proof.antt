@@ -1,4 +1,4 @@
--- `controller::execute::shift` meets its contract: at each return what led there says which case of `wrapped` holds.
+-- `controller::execute::shift` meets its contract: the shift is below 80, so that it is a place in the ring.
 -- Assumes nothing.
 use Rattle.controller.specs.Cells.{wrapped}
 use borrow.Author.Needs.{needs}

@@ -1,5 +1,4 @@
--- `controller::execute::short_time` meets its contract: at each return what led there says which case of `shortTime`
--- holds.
+-- `controller::execute::short_time` meets its contract: the number is `shortTime`.
 -- Assumes nothing.
 use Rattle.controller.specs.Execute.{shortTime}
 use mathlib.Core.Path.{refl}

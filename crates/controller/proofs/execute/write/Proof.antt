@@ -1,3 +1,5 @@
+-- `controller::execute::write` meets its contract: the step keeps the shift below 80, so that the display can follow.
+-- Assumes nothing.
 use Rattle.controller.specs.Execute.{written}
 use borrow.Author.Needs.{needs}
 use Rattle.controller.proofs.execute.write.Statement.{statement}

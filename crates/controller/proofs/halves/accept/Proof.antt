@@ -1,4 +1,4 @@
--- `controller::halves::accept` meets its contract: at each return what led there says which case of `accepted` holds.
+-- `controller::halves::accept` meets its contract: the width decides, and a ready record's half is four bits.
 -- Assumes nothing.
 use Rattle.controller.specs.Halves.{accepted}
 use borrow.Author.Needs.{needs}

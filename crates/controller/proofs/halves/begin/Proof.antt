@@ -1,4 +1,4 @@
--- `controller::halves::begin` meets its contract: at each return what led there says which case of `begun` holds.
+-- `controller::halves::begin` meets its contract: each kind begins its own transfer, a read with the byte that it will return.
 -- Assumes nothing.
 use Rattle.controller.specs.Halves.{begun}
 use borrow.Author.Tests.{eq-eqb, ne-eqb}

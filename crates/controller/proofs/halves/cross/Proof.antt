@@ -1,3 +1,5 @@
+-- `controller::halves::cross` meets its contract: only a 0 of another kind becomes 8.
+-- Assumes nothing.
 use Rattle.controller.specs.Halves.{crossed}
 use borrow.Author.Tests.{not-true, not-false}
 use mathlib.Core.Path.{sym, _∙_}

@@ -1,4 +1,4 @@
--- `controller::halves::end` meets its contract: at each return what led there says which case of `crossed` holds.
+-- `controller::halves::end` meets its contract: the low half moved up is still a byte.
 -- Assumes nothing.
 use Rattle.controller.specs.Halves.{crossed}
 use borrow.Author.Needs.{needs}

@@ -1,5 +1,4 @@
--- `controller::halves::first_half` meets its contract: at each return what led there says which case of `firstHalf`
--- holds.
+-- `controller::halves::first_half` meets its contract: each kind stores its own half, a write's four bits or a read's byte.
 -- Assumes nothing.
 use Rattle.controller.specs.Halves.{firstHalf}
 use borrow.Author.Needs.{needs}

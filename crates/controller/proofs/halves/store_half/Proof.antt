@@ -1,4 +1,4 @@
--- `controller::halves::store_half` meets its contract: each return is what its callees promise.
+-- `controller::halves::store_half` meets its contract: the half is the one thing of the record that changes.
 -- Assumes nothing.
 use borrow.Author.Needs.{needs}
 use Rattle.controller.proofs.halves.store_half.Statement.{statement}

@@ -1,5 +1,4 @@
--- `controller::instruction::control_of` meets its contract: at each return what led there says which case of `bit`
--- holds.
+-- `controller::instruction::control_of` meets its contract: D, C and B are bits 2, 1 and 0.
 -- Assumes nothing.
 use Rattle.controller.specs.Instruction.{bit}
 use borrow.Author.Needs.{needs}

@@ -1,5 +1,4 @@
--- `controller::instruction::decode` meets its contract: at each return what led there says which case of `decoded`
--- holds.
+-- `controller::instruction::decode` meets its contract: the table from its last row to its first, the highest set bit deciding.
 -- Assumes nothing.
 use Rattle.controller.specs.Instruction.{decoded}
 use borrow.Author.Tests.{le-leb, lt-leb}

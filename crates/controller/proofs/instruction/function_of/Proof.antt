@@ -1,5 +1,4 @@
--- `controller::instruction::function_of` meets its contract: at each return what led there says which case of `bit`
--- holds.
+-- `controller::instruction::function_of` meets its contract: N and F are bits 3 and 2.
 -- Assumes nothing.
 use Rattle.controller.specs.Instruction.{bit}
 use borrow.Author.Needs.{needs}

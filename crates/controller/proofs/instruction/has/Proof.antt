@@ -1,4 +1,4 @@
--- `controller::instruction::has` meets its contract: at each return what led there says which case of `bit` holds.
+-- `controller::instruction::has` meets its contract: a bit is the remainder by 2 after a division by what it is worth.
 -- Assumes nothing.
 use Rattle.controller.specs.Instruction.{bit}
 use mathlib.Core.Path.{refl}

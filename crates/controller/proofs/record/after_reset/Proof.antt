@@ -1,5 +1,4 @@
--- `controller::record::after_reset` meets its contract: at each return what led there says which case of
--- `resetRecord` holds.
+-- `controller::record::after_reset` meets its contract: field by field the record of document 01.
 -- Assumes nothing.
 use Rattle.controller.specs.Record.{resetRecord}
 use borrow.Author.Needs.{needs}

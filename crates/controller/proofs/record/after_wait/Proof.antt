@@ -1,3 +1,5 @@
+-- `controller::record::after_wait` meets its contract: a wait as long as busy ends it, and a shorter one can be taken off.
+-- Assumes nothing.
 use Rattle.controller.specs.Record.{waited}
 use borrow.Author.Tests.{le-leb, lt-leb}
 use borrow.Author.Needs.{needs}

@@ -1,5 +1,4 @@
--- `controller::record::half_is_sound` meets its contract: at each return what led there says which case of
--- `halfSound` holds.
+-- `controller::record::half_is_sound` meets its contract: for each half the tests of its row, width before value before busy.
 -- Assumes nothing.
 use Rattle.controller.specs.Record.{halfSound}
 use borrow.Author.Tests.{lt-ltb, le-ltb}

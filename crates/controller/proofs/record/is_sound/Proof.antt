@@ -1,4 +1,4 @@
--- `controller::record::is_sound` meets its contract: at each return what led there says which case of `sound` holds.
+-- `controller::record::is_sound` meets its contract: shift, counter, busy and half, each tested once those before it hold.
 -- Assumes nothing.
 use Rattle.controller.specs.Record.{sound}
 use borrow.Author.Tests.{lt-ltb, le-ltb, le-leb, lt-leb}

@@ -1,5 +1,4 @@
--- `controller::record::reset_time` meets its contract: at each return what led there says which case of `resetTime`
--- holds.
+-- `controller::record::reset_time` meets its contract: the number is `resetTime`.
 -- Assumes nothing.
 use Rattle.controller.specs.Record.{resetTime}
 use mathlib.Core.Path.{refl}

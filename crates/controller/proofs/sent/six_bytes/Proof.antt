@@ -1,3 +1,5 @@
+-- `controller::sent::six_bytes` meets its contract: kind and byte, then the four bytes of the wait.
+-- Assumes nothing.
 use borrow.Author.Needs.{needs}
 use Rattle.controller.proofs.sent.six_bytes.Statement.{statement}
 use Rattle.controller.proofs.sent.six_bytes.Tie as tie

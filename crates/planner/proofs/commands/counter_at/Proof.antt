@@ -1,4 +1,5 @@
--- `planner::commands::counter_at` meets its contract: at each return what led there says which case of `counterAt` holds.
+-- `planner::commands::counter_at` meets its contract: the first 80 places are display cells, and the others pattern cells
+-- counted from there.
 -- Assumes nothing.
 use Rattle.planner.specs.Plan.{counterAt}
 use borrow.Author.Tests.{lt-ltb, le-ltb}

@@ -1,4 +1,4 @@
--- `planner::commands::worth_of` meets its contract: at each return what led there says which case of `worth` holds.
+-- `planner::commands::worth_of` meets its contract: a bit that is set counts its value, and one that is not counts nothing.
 -- Assumes nothing.
 use Rattle.planner.specs.Plan.{worth}
 use Rattle.planner.proofs.commands.worth_of.Statement.{statement}

@@ -14,8 +14,8 @@ use borrow.Author.Needs.{needs}
 use Rattle.planner.proofs.pen.send.Statement.{statement}
 use Rattle.planner.proofs.pen.send.Tie as tie
 
-mul-put : tie.Need-mul-put
-mul-put c = search needs
+mul-t10 : tie.Need-mul-t10
+mul-t10 c = search needs
 
 put-requires : tie.Need-put-requires
 put-requires c κs = search needs
@@ -23,14 +23,14 @@ put-requires c κs = search needs
 add-put : tie.Need-add-put
 add-put c = search needs
 
-mul-put-2 : tie.Need-mul-put-2
-mul-put-2 c = search needs
+mul-t10-2 : tie.Need-mul-t10-2
+mul-t10-2 c = search needs
 
 put-requires-2 : tie.Need-put-requires-2
 put-requires-2 c κs = search needs
 
-add-t13 : tie.Need-add-t13
-add-t13 c = search needs
+add-t14 : tie.Need-add-t14
+add-t14 c = search needs
 
 time-of-requires : tie.Need-time-of-requires
 time-of-requires c κs = search needs
@@ -58,12 +58,12 @@ pub send-spec : {M : Type 1} → statement M
 send-spec =
     tie.close
     (tie.spec
-    mul-put
+    mul-t10
     put-requires
     add-put
-    mul-put-2
+    mul-t10-2
     put-requires-2
-    add-t13
+    add-t14
     time-of-requires
     same-length
     returns)

@@ -1,4 +1,4 @@
--- `planner::pen::time_of` meets its contract: at each return what led there says which case of `timeOf` holds.
+-- `planner::pen::time_of` meets its contract: of the instructions 02h alone is long; a data write of 02h is not.
 -- Assumes nothing.
 use Rattle.planner.specs.Plan.{timeOf}
 use borrow.Author.Tests.{eq-eqb, ne-eqb}

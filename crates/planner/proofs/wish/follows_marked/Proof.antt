@@ -1,5 +1,5 @@
--- `planner::wish::follows_marked` meets its contract: at each return what led there says which case of `follows`
--- holds.
+-- `planner::wish::follows_marked` meets its contract: no cell comes before the first of a memory, and any other has one to look
+-- at.
 -- Assumes nothing.
 use Rattle.planner.specs.Wish.{follows}
 use borrow.Author.Tests.{eq-eqb, ne-eqb}

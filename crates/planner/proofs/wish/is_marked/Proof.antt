@@ -1,4 +1,4 @@
--- `planner::wish::is_marked` meets its contract: at each return what led there says which case of `marked` holds.
+-- `planner::wish::is_marked` meets its contract: a mark of 1 and no other.
 -- Assumes nothing.
 use Rattle.planner.specs.Wish.{marked}
 use mathlib.Core.Path.{refl}

@@ -1,19 +1,14 @@
 //! Random session lines, good and damaged.
 
-use crate::chance::Chance;
-use crate::model::{DATA_READ, DATA_WRITE, INSTRUCTION_WRITE, STATUS_READ};
-
-pub const KINDS: [u8; 4] = [INSTRUCTION_WRITE, DATA_WRITE, STATUS_READ, DATA_READ];
-
-pub fn letter(kind: u8) -> char {
-    ['I', 'D', 'S', 'R'][usize::from(kind)]
-}
+use super::Chance;
+use crate::model::{is_read, letter, KINDS};
 
 /// "00h for reads".
 pub fn byte_of(kind: u8, byte: u8) -> u8 {
-    match kind {
-        STATUS_READ | DATA_READ => 0x00,
-        _ => byte,
+    if is_read(kind) {
+        0x00
+    } else {
+        byte
     }
 }
 

@@ -1,5 +1,8 @@
 //! Random numbers that a seed repeats.
 
+/// The seed where none is named.
+pub const SEED: u64 = 44_780;
+
 /// xorshift64.
 pub struct Chance(u64);
 

@@ -1,8 +1,8 @@
-//! Deliberately wrong drawings, as `wrong` has wrong models.
+//! Deliberately wrong drawings of the program `glass`.
 
-use crate::drawing::{self, Dot, Drawing, Grid, Gridder, Inker, Size, Teller, Watcher, DRAWING};
-use crate::model::{Half, Record};
-use crate::wrong::{self, each};
+use crate::drawing::{self, Dot, Drawing, Grid, Gridder, Inker, Teller, Watcher, DRAWING};
+use crate::model::{line_length, Half, Record, Size};
+use crate::wrong::{each, of_calls};
 
 /// Each character's dots run from right to left.
 fn mirrored_dots(picture: &[u8], size: Size) -> Grid {
@@ -29,7 +29,7 @@ fn gap_too_many(picture: &[u8], size: Size) -> Grid {
 fn lines_joined(picture: &[u8], size: Size) -> Grid {
     let mut grid = drawing::grid(picture, size);
     if size.lines == 2 {
-        grid.remove(8);
+        grid.remove(grid.len() / 2);
     }
     grid
 }
@@ -59,9 +59,8 @@ fn second_line_shown(rec: &Record, size: Size, cell: u8) -> bool {
 
 /// The shift is told modulo the length of a line.
 fn shift_in_line(rec: &Record) -> String {
-    let length = if rec.n { 40 } else { 80 };
     drawing::state(&Record {
-        shift: rec.shift % length,
+        shift: rec.shift % line_length(rec.n),
         ..*rec
     })
 }
@@ -107,7 +106,7 @@ const WRONG_MODELS: [&str; 2] = ["read-shifts", "second-line-drawn"];
 
 /// All of them, with their names.
 pub fn all() -> Vec<(&'static str, Drawing)> {
-    let mut models = wrong::of_calls();
+    let mut models = of_calls();
     models.retain(|(name, _)| WRONG_MODELS.contains(name));
     [
         each(&WRONG_GRIDS, |grid| Drawing { grid, ..DRAWING }),

@@ -1,72 +1,16 @@
-//! The bench cases P1 to P12 of document 01, and the plan played back.
+//! Document 01, "Bench cases": P1 to P12.
 
-use yaropesk_model::demand::wished_record;
 use yaropesk_model::model::*;
 
-/// A controller with its memory, busy already over.
-struct Bench {
-    rec: Record,
-    mem: [u8; MEMORY],
-}
+use crate::given::{font, plain_wish, rows, Bench};
 
-impl Bench {
-    fn after_reset() -> Bench {
-        let mut mem = [0x00; MEMORY];
-        let (answer, rec) = reset(record_after_reset(), &mut mem);
-        assert_eq!(answer, DONE);
-        Bench { rec, mem }
-    }
-
-    /// One transfer; answer and byte.
-    fn send(&mut self, kind: u8, byte: u8, wait: u32) -> (u8, u8) {
-        let (answer, byte, rec) = transfer(self.rec, &mut self.mem, kind, byte, wait);
-        self.rec = rec;
-        assert!(is_sound(&rec));
-        (answer, byte)
-    }
-
-    /// One transfer after a wait that ends every busy time.
-    fn instruction(&mut self, byte: u8) -> u8 {
-        self.send(INSTRUCTION_WRITE, byte, 10_000).0
-    }
-
-    fn data(&mut self, byte: u8) -> u8 {
-        self.send(DATA_WRITE, byte, 10_000).0
-    }
-
-    fn address(&mut self) -> u8 {
-        let (answer, byte) = self.send(STATUS_READ, 0x00, 10_000);
-        assert_eq!(answer, DONE);
-        byte
-    }
-}
-
-/// A font that shows its own address: row r of code c is c + r in five bits, the
-/// eighth row 0.
-fn made_up_font() -> [u8; FONT] {
-    let mut font = [0; FONT];
-    for code in 0..256 {
-        for row in 0..7 {
-            font[code * 8 + row] = ((code + row) % 32) as u8;
-        }
-    }
-    font
-}
-
-/// The cells at the start of the two lines, found by the patterns drawn there.
+/// The rows at the start of the two lines.
 fn first_column(bench: &Bench) -> Vec<u8> {
-    let mut out = [0xEE; 2 * 8 * 8];
-    let answer = picture(
-        &bench.rec,
-        &bench.mem,
-        8,
-        2,
-        false,
-        &mut out,
-        &made_up_font(),
-    );
+    let size = Size::new(8, 2);
+    let mut out = vec![0xEE; picture_bytes(&bench.rec, size)];
+    let answer = picture(&bench.rec, &bench.mem, size, false, &mut out, &font());
     assert_eq!(answer, DONE);
-    (0..16).map(|row| out[row * 8]).collect()
+    out.into_iter().step_by(8).collect()
 }
 
 #[test]
@@ -122,14 +66,12 @@ fn p4_addresses_with_and_without_a_cell() {
 
 #[test]
 fn p5_shifts() {
-    let font = made_up_font();
-    let rows = |code: usize| font[code * 8..code * 8 + 8].to_vec();
     for (byte, first, second) in [(0x18, 1, 41), (0x1C, 39, 79)] {
         let mut bench = Bench::after_reset();
         bench.instruction(0x38);
         bench.instruction(0x0C);
-        for cell in 0..80 {
-            bench.mem[cell] = 0x20 + cell as u8;
+        for (cell, code) in bench.mem[..80].iter_mut().enumerate() {
+            *code = 0x20 + cell as u8;
         }
         bench.instruction(byte);
         let expected = [rows(0x20 + first), rows(0x20 + second)].concat();
@@ -212,28 +154,6 @@ fn p11_session() {
     assert_eq!(session(input.as_bytes()), report.as_bytes());
 }
 
-fn plain_wish() -> Wish {
-    Wish {
-        n: true,
-        f: false,
-        d: true,
-        c: false,
-        b: false,
-        id: true,
-        s: false,
-        shift: 0,
-        cursor: 0,
-    }
-}
-
-/// The records of a plan as (kind, byte, wait).
-fn records(out: &[u8], count: usize) -> Vec<(u8, u8, u32)> {
-    out[..count * 6]
-        .chunks(6)
-        .map(|r| (r[0], r[1], u32::from_le_bytes([r[2], r[3], r[4], r[5]])))
-        .collect()
-}
-
 #[test]
 fn p12_plan_of_a_plain_wish() {
     let mut out = [0xEE; PLAN_BYTES + 3];
@@ -249,63 +169,7 @@ fn p12_plan_of_a_plain_wish() {
     let expected: Vec<_> = (0..18)
         .map(|i| (INSTRUCTION_WRITE, bytes[i], waits[i]))
         .collect();
-    assert_eq!(records(&out, 18), expected);
-    assert!(out[18 * 6..].iter().all(|&byte| byte == 0xEE));
-}
-
-/// Plays a plan after reset: every transfer is done, and the panel stands as wished.
-fn play(wish: &Wish, marks: &[u8; MEMORY], values: &[u8; MEMORY]) -> usize {
-    let mut out = [0; PLAN_BYTES];
-    let (answer, count) = plan(wish, marks, values, &mut out);
-    assert_eq!(answer, DONE);
-
-    let mut bench = Bench::after_reset();
-    for (cell, byte) in bench.mem.iter_mut().enumerate().skip(80) {
-        *byte = cell as u8;
-    }
-    let before = bench.mem;
-    for (i, (kind, byte, wait)) in records(&out, count).into_iter().enumerate() {
-        let first = i >= 4 && i % 2 == 0;
-        let expected = if first { FIRST_HALF } else { DONE };
-        assert_eq!(bench.send(kind, byte, wait), (expected, 0x00), "record {i}");
-    }
-    for cell in 0..MEMORY {
-        let wished = [before, *values][usize::from(marks[cell])][cell];
-        assert_eq!(bench.mem[cell], wished, "cell {cell}");
-    }
-    assert_eq!(bench.rec, wished_record(wish, &bench.mem));
-    count
-}
-
-#[test]
-fn plans_lead_to_the_wish() {
-    let mut values = [0; MEMORY];
-    for (cell, value) in values.iter_mut().enumerate() {
-        *value = (cell * 7 + 33) as u8;
-    }
-    let mut wish = plain_wish();
-    for step in 1..13 {
-        let mut marks = [0; MEMORY];
-        for mark in marks.iter_mut().step_by(step) {
-            *mark = 1;
-        }
-        wish.n = step % 2 == 0;
-        wish.f = step % 2 == 1;
-        wish.c = step % 3 == 0;
-        wish.b = step % 3 == 1;
-        wish.d = step % 5 != 0;
-        wish.id = step % 4 != 1;
-        wish.s = step % 4 == 2;
-        wish.shift = step as u8 * 3;
-        wish.cursor = 79 - step as u8 * 6;
-        play(&wish, &marks, &values);
-    }
-}
-
-#[test]
-fn the_longest_plan_has_468_records() {
-    let mut wish = plain_wish();
-    wish.n = false;
-    wish.shift = 79;
-    assert_eq!(play(&wish, &[1; MEMORY], &[0x55; MEMORY]), 468);
+    let (records, rest) = out.split_at(18 * TRANSFER_BYTES);
+    assert_eq!(transfers_of(records), expected);
+    assert!(rest.iter().all(|&byte| byte == 0xEE));
 }

@@ -1,22 +1,28 @@
-//! Random session texts.
+//! A session text in the making: lines, and phrases of lines that belong together.
 
-use crate::chance::Chance;
-use crate::model::{DATA_READ, DATA_WRITE, INSTRUCTION_WRITE, SESSION_BYTES, STATUS_READ};
-use crate::random_lines::{byte_of, damaged_line, line, KINDS};
+use super::lines::{byte_of, damaged_line, line};
+use super::Chance;
+use crate::model::{DATA_READ, DATA_WRITE, INSTRUCTION_WRITE, KINDS, STATUS_READ};
+use crate::model::{LONG_TIME, SHORT_TIME};
 
+const SHORT: u64 = SHORT_TIME as u64;
+const LONG: u64 = LONG_TIME as u64;
+const LONGEST_WAIT: u64 = u32::MAX as u64;
+
+/// Waits at and around the times of instructions and of reset, and at the limits.
 const WAITS: [u64; 12] = [
     0,
     1,
-    39,
-    40,
-    41,
+    SHORT - 1,
+    SHORT,
+    SHORT + 1,
     100,
-    1_639,
-    1_640,
-    1_641,
+    LONG - 1,
+    LONG,
+    LONG + 1,
     10_000,
     15_000,
-    4_294_967_295,
+    LONGEST_WAIT,
 ];
 
 /// Addresses at the edges of the lines, with and without a cell.
@@ -24,107 +30,18 @@ const ADDRESSES: [u8; 16] = [
     0x00, 0x01, 0x26, 0x27, 0x28, 0x3F, 0x40, 0x41, 0x4E, 0x4F, 0x50, 0x66, 0x67, 0x68, 0x7F, 0x20,
 ];
 
-/// The numbers of the panels' generators lie past those of the texts'.
-const PANELS: u64 = 1 << 40;
-
-/// Text number k of a seed.
-pub fn random_text(seed: u64, number: u64) -> Vec<u8> {
-    let mut chance = Chance::new(seed, number);
-    match chance.below(100) {
-        0..=1 => noise(&mut chance),
-        2 => large_text(&mut chance),
-        _ => text_of_lines(&mut chance),
-    }
-}
-
-/// Text number k of a seed for a panel that is to be seen: one that turns the display on
-/// and writes to it, and then the text above; now and then that text alone.
-pub fn random_panel_text(seed: u64, number: u64) -> Vec<u8> {
-    let rest = random_text(seed, number);
-    let mut chance = Chance::new(seed, PANELS + number);
-    // A text near the limit stays as it is, so that the limit is met.
-    if rest.len() > SESSION_BYTES / 2 || chance.percent(15) {
-        return rest;
-    }
-    let mut text = Text {
-        patient: true,
-        four: false,
-        ..Text::new(&mut chance)
-    };
-    text.panel();
-    [text.bytes, rest].concat()
-}
-
-/// Random bytes alone, or random ones of those that lines are made of.
-fn noise(chance: &mut Chance) -> Vec<u8> {
-    let length = chance.index(300);
-    if chance.percent(50) {
-        return chance.bytes(length);
-    }
-    (0..length)
-        .map(|_| chance.pick(b"IDSR\t\n00123489AF"))
-        .collect()
-}
-
-/// Good lines close to, at, or over 65,536 bytes.
-fn large_text(chance: &mut Chance) -> Vec<u8> {
-    let length = match chance.below(8) {
-        0 => 65_535,
-        1 | 2 => 65_536,
-        3 => 65_537,
-        4 => chance.between(65_400, 65_534),
-        5 => chance.between(65_538, 65_600),
-        6 => chance.between(65_536, 70_000),
-        _ => chance.between(70_000, 300_000),
-    } as usize;
-    let mut text = Text::new(chance);
-    text.opening();
-    text.fill_to(length);
-    text.bytes
-}
-
-/// From 0 to some 400 lines, short texts more often than long ones. Something bad stands
-/// in one text of three, more often towards its end.
-fn text_of_lines(chance: &mut Chance) -> Vec<u8> {
-    let most = chance.pick(&[4, 20, 60, 150, 400]);
-    let lines = chance.between(0, most);
-    let bad_after = chance.between(0, lines).max(chance.between(0, lines)) as usize;
-    let mut bad = chance.percent(33);
-    let mut text = Text::new(chance);
-    if lines > 0 {
-        text.opening();
-    }
-    while text.lines < lines as usize {
-        if bad && text.lines >= bad_after {
-            text.damaged();
-            bad = false;
-        }
-        text.phrase();
-    }
-    if bad {
-        text.damaged();
-    }
-    let mut bytes = text.bytes;
-    // Now and then the last newline, or a little more, is cut off.
-    if chance.percent(6) {
-        let cut = chance.pick(&[1, 1, 1, 2, 3, 5]);
-        bytes.truncate(bytes.len().saturating_sub(cut));
-    }
-    bytes
-}
-
 /// A text in the making. A patient one mostly waits long enough; one of four wires
 /// sends its bytes in halves.
-struct Text<'a> {
+pub struct Text<'a> {
     chance: &'a mut Chance,
-    bytes: Vec<u8>,
-    lines: usize,
+    pub bytes: Vec<u8>,
+    pub lines: usize,
     patient: bool,
     four: bool,
 }
 
 impl Text<'_> {
-    fn new(chance: &mut Chance) -> Text<'_> {
+    pub fn new(chance: &mut Chance) -> Text<'_> {
         let (patient, four) = (chance.percent(70), chance.percent(50));
         Text {
             chance,
@@ -135,14 +52,24 @@ impl Text<'_> {
         }
     }
 
+    /// A patient one over eight wires.
+    pub fn patient(chance: &mut Chance) -> Text<'_> {
+        Text {
+            patient: true,
+            four: false,
+            ..Text::new(chance)
+        }
+    }
+
     fn wait(&mut self) -> u64 {
         if self.patient && self.chance.percent(90) {
-            return self.chance.pick(&[40, 40, 41, 100, 1_640, 1_641, 10_000]);
+            let enough = [SHORT, SHORT, SHORT + 1, 100, LONG, LONG + 1, 10_000];
+            return self.chance.pick(&enough);
         }
         match self.chance.below(10) {
             0..=7 => self.chance.pick(&WAITS),
             8 => self.chance.below(12_000),
-            _ => self.chance.below(4_294_967_296),
+            _ => self.chance.between(0, LONGEST_WAIT),
         }
     }
 
@@ -151,7 +78,7 @@ impl Text<'_> {
         self.lines += 1;
     }
 
-    fn damaged(&mut self) {
+    pub fn damaged(&mut self) {
         self.bytes.extend(damaged_line(self.chance));
         self.lines += 1;
     }
@@ -188,7 +115,7 @@ impl Text<'_> {
     }
 
     /// A few transfers that belong together.
-    fn phrase(&mut self) {
+    pub fn phrase(&mut self) {
         match self.chance.below(20) {
             0..=2 => self.write_some(),
             3..=5 => self.read_some(),
@@ -286,7 +213,7 @@ impl Text<'_> {
     }
 
     /// The first lines: mostly out of the busy time of reset, and to the width.
-    fn opening(&mut self) {
+    pub fn opening(&mut self) {
         if self.chance.percent(10) {
             return;
         }
@@ -300,7 +227,7 @@ impl Text<'_> {
 
     /// A panel over eight wires, on, with patterns and letters of its own, and mostly with
     /// a cursor and a shift.
-    fn panel(&mut self) {
+    pub fn panel(&mut self) {
         let function = self.chance.pick(&[0x30, 0x38]);
         self.line(INSTRUCTION_WRITE, function, 15_000);
         self.instruction(0x0C, 0x03);
@@ -326,14 +253,14 @@ impl Text<'_> {
             1 => 0,
             _ => 10u64.pow(digits - 1),
         };
-        let high = (10u64.pow(digits) - 1).min(4_294_967_295);
+        let high = (10u64.pow(digits) - 1).min(LONGEST_WAIT);
         let (kind, byte) = (self.chance.pick(&KINDS), self.chance.byte());
         let wait = self.chance.between(low, high);
         self.line(kind, byte, wait);
     }
 
     /// Good lines up to exactly so many bytes.
-    fn fill_to(&mut self, length: usize) {
+    pub fn fill_to(&mut self, length: usize) {
         while self.bytes.len() + 200 < length {
             self.phrase();
         }

@@ -1,0 +1,33 @@
+//! Document 01, "What each number says": every answer has its name here, and is known by
+//! it elsewhere.
+
+/// The number of an answer.
+pub type Answer = u8;
+
+/// "done"
+pub const DONE: Answer = 0;
+/// "record unsound". 9, "counter on no cell", has no name here: a counter on no cell makes
+/// the record unsound, and 1 comes before 9.
+pub const UNSOUND: Answer = 1;
+/// "memory, marks or values not 144 long"
+pub const WRONG_LENGTH: Answer = 2;
+/// "kind above 3, or a read with a byte"
+pub const WRONG_KIND: Answer = 3;
+/// "busy"
+pub const BUSY: Answer = 4;
+/// "first half taken"
+pub const FIRST_HALF: Answer = 5;
+/// "display address without a cell"
+pub const NO_CELL: Answer = 6;
+/// "stale read, done"
+pub const STALE: Answer = 7;
+/// "crossed halves, done"
+pub const CROSSED: Answer = 8;
+/// "columns or lines out of range"
+pub const OUT_OF_RANGE: Answer = 10;
+/// "output too short"
+pub const TOO_SHORT: Answer = 11;
+/// "bad line"
+pub const BAD_LINE: Answer = 12;
+/// "not a wish"
+pub const NOT_A_WISH: Answer = 13;

@@ -1,0 +1,29 @@
+//! The rules of document 01 (`01-scope.md`) in plain Rust, a file for each of its chapters;
+//! "Session lines" has two.
+//!
+//! Written from the documents alone, apart from the proved code.
+//! Sentences in quotation marks are those of document 01; "reading n" is the
+//! n-th reading of docs/DECISIONS.md. Time is whole microseconds.
+//!
+//! Every function is total, and a refusal leaves lent bytes as it found them.
+
+mod answers;
+mod dots;
+mod lines;
+mod plan;
+mod record;
+mod session;
+mod transfer;
+
+pub use answers::*;
+pub use dots::{line_length, picture, picture_bytes, shape, shown_cell};
+pub use dots::{Size, FONT, SHAPE_ROWS};
+pub use lines::{letter, read_line, write_line, Line, LINE_BYTES};
+pub use plan::{little_endian, transfer_bytes, transfers_of};
+pub use plan::{plan, Wish, PLAN_BYTES, TRANSFER_BYTES};
+pub use record::{is_sound, place, record_after_reset, reset, Counter, Half, Record};
+pub use record::{DISPLAY_CELLS, LONGEST_BUSY, MEMORY, PATTERN_CELLS};
+pub use session::{play, session, session_with, Played, Reader, Step};
+pub use session::{HEADER, SESSION_BYTES, TOO_LONG};
+pub use transfer::{is_read, transfer, Transfer, LONG_TIME, SHORT_TIME};
+pub use transfer::{DATA_READ, DATA_WRITE, INSTRUCTION_WRITE, KINDS, STATUS_READ};

@@ -1,0 +1,188 @@
+//! Wrong readings of document 01's chapter "One transfer".
+
+use crate::model::{self, Answer, Counter, Half, Record, Step};
+
+/// A transfer that the model has made: how it was sent, and what it came to.
+struct Made {
+    before: Record,
+    kind: u8,
+    byte: u8,
+    wait: u32,
+    answer: Answer,
+    read: u8,
+    new: Record,
+}
+
+impl Made {
+    /// The byte of the instruction that this transfer has completed, if it has one.
+    fn instruction(&self) -> Option<u8> {
+        let done = self.answer == model::DONE || self.answer == model::CROSSED;
+        match self.before.half {
+            Half::InstructionWrite(high) if done => Some((high << 4) | (self.byte >> 4)),
+            Half::None if done && self.kind == model::INSTRUCTION_WRITE => Some(self.byte),
+            _ => None,
+        }
+    }
+
+    /// Has a data read been completed by this transfer?
+    fn is_read(&self) -> bool {
+        let done = matches!(self.answer, model::DONE | model::STALE | model::CROSSED);
+        match self.before.half {
+            Half::DataRead(_) => done,
+            Half::None => done && self.kind == model::DATA_READ,
+            _ => false,
+        }
+    }
+}
+
+/// The model's transfer, and then a fault in what it came to.
+macro_rules! then {
+    ($fault:ident) => {
+        |before, memory, kind, byte, wait| {
+            let (answer, read, new) = model::transfer(before, memory, kind, byte, wait);
+            let mut made = Made {
+                before,
+                kind,
+                byte,
+                wait,
+                answer,
+                read,
+                new,
+            };
+            $fault(&mut made);
+            (made.answer, made.read, made.new)
+        }
+    };
+}
+
+/// Clear sets I/D=1, as document 003 has it.
+fn clear_increments(made: &mut Made) {
+    if made.instruction() == Some(0x01) {
+        made.new.id = true;
+    }
+}
+
+/// Clear leaves a fresh register fresh.
+fn clear_keeps_fresh(made: &mut Made) {
+    if made.instruction() == Some(0x01) {
+        made.new.fresh = made.before.fresh;
+    }
+}
+
+/// A data read with S=1 shifts the display. No report shows the shift: this one is found
+/// out by drawings and by calls.
+fn read_shifts(made: &mut Made) {
+    let displayed = matches!(made.new.counter, Counter::Display(_));
+    if displayed && made.new.s && made.is_read() {
+        made.new.shift = (made.new.shift + if made.new.id { 1 } else { 79 }) % 80;
+    }
+}
+
+/// A data read leaves the counter where it was.
+fn read_stays(made: &mut Made) {
+    if made.is_read() {
+        made.new.counter = made.before.counter;
+    }
+}
+
+/// A cursor move in pattern memory keeps a fresh register fresh.
+fn pattern_move_fresh(made: &mut Made) {
+    if let (Some(0x10..=0x17), Counter::Pattern(_)) = (made.instruction(), made.new.counter) {
+        made.new.fresh = made.before.fresh;
+    }
+}
+
+/// Instruction 00h takes no time.
+fn nothing_takes_nothing(made: &mut Made) {
+    if made.instruction() == Some(0x00) {
+        made.new.busy = 0;
+    }
+}
+
+/// An address without a cell takes its 40.
+fn no_cell_takes_time(made: &mut Made) {
+    if made.answer == model::NO_CELL {
+        made.new.busy = model::SHORT_TIME;
+    }
+}
+
+/// Changing N keeps the address instead of the cell.
+fn n_keeps_address(made: &mut Made) {
+    if let Counter::Display(cell) = made.new.counter {
+        let cell = match (made.before.n, made.new.n) {
+            (true, false) if cell >= 40 => (cell + 24) % 80,
+            (false, true) if cell >= 64 => cell - 24,
+            _ => cell,
+        };
+        made.new.counter = Counter::Display(cell);
+    }
+}
+
+/// A busy refusal does not count its wait.
+fn refusal_counts_no_wait(made: &mut Made) {
+    if made.answer == model::BUSY {
+        made.new = made.before;
+    }
+}
+
+/// Crossed halves are answered 0.
+fn crossed_unseen(made: &mut Made) {
+    if made.answer == model::CROSSED {
+        made.answer = model::DONE;
+    }
+}
+
+/// A crossed read gives nothing to the write that completes it.
+fn crossed_read_silent(made: &mut Made) {
+    if made.answer == model::CROSSED {
+        made.read = 0x00;
+    }
+}
+
+/// The pattern counter runs down from 0 to 63 only when writing; a read stays at 0.
+fn pattern_read_stops(made: &mut Made) {
+    let at_first = made.before.counter == Counter::Pattern(0);
+    if at_first && !made.before.id && made.is_read() {
+        made.new.counter = Counter::Pattern(0);
+    }
+}
+
+/// A kind above 3 is refused, and its wait counted.
+fn bad_kind_counts_wait(made: &mut Made) {
+    if made.answer == model::WRONG_KIND {
+        made.new.busy = made.new.busy.saturating_sub(made.wait);
+    }
+}
+
+/// Busy is over one microsecond too late.
+fn busy_one_off(
+    before: Record,
+    memory: &mut [u8],
+    kind: u8,
+    byte: u8,
+    wait: u32,
+) -> (Answer, u8, Record) {
+    if before.busy > 0 && before.busy == wait {
+        return model::transfer(before, memory, kind, byte, wait - 1);
+    }
+    model::transfer(before, memory, kind, byte, wait)
+}
+
+pub const WRONG_STEPS: [(&str, Step); 13] = [
+    ("clear-increments", then!(clear_increments)),
+    ("clear-keeps-fresh", then!(clear_keeps_fresh)),
+    ("read-stays", then!(read_stays)),
+    ("pattern-move-fresh", then!(pattern_move_fresh)),
+    ("nothing-takes-nothing", then!(nothing_takes_nothing)),
+    ("no-cell-takes-time", then!(no_cell_takes_time)),
+    ("n-keeps-address", then!(n_keeps_address)),
+    ("refusal-counts-no-wait", then!(refusal_counts_no_wait)),
+    ("crossed-unseen", then!(crossed_unseen)),
+    ("crossed-read-silent", then!(crossed_read_silent)),
+    ("pattern-read-stops", then!(pattern_read_stops)),
+    ("busy-one-off", busy_one_off),
+    ("read-shifts", then!(read_shifts)),
+];
+
+/// No session has a kind above 3.
+pub const UNSEEN_STEPS: [(&str, Step); 1] = [("bad-kind-counts-wait", then!(bad_kind_counts_wait))];
