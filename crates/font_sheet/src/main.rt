@@ -127,7 +127,11 @@ fn put_block(text: &mut [u8; 6107], at: usize, first: u8)
 {
     let memory = codes_from(first);
     let mut picture = [0u8; 128];
-    dots::picture(shown(), &memory, 16, 1, false, &mut picture);
+    let size = dots::Size {
+        columns: 16,
+        lines: 1,
+    };
+    dots::picture(shown(), &memory, size, false, &mut picture);
     put_codes(text, at, first);
     put_rows(text, at + 113, &picture);
 }

@@ -2,6 +2,7 @@
 mod options;
 
 use controller::number;
+use dots::Size;
 use drawing::Form;
 use drawing::draw;
 use libc::STDERR_FILENO;
@@ -65,15 +66,11 @@ fn show(options: Options, standing: Standing) {
     let form = options.form;
     let rec = standing.rec;
     let memory = standing.memory;
-    let drawn = draw(
-        form,
-        rec,
-        &memory,
-        options.columns,
-        options.lines,
-        true,
-        &mut out,
-    );
+    let size = Size {
+        columns: options.columns,
+        lines: options.lines,
+    };
+    let drawn = draw(form, rec, &memory, size, true, &mut out);
     let answer = drawn.answer;
     if number(answer) != 0 {
         tell_usage();

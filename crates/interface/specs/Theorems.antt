@@ -27,7 +27,7 @@ use Rattle.interface.specs.declared.wish_bytes.ReadWish.the-variants as 
 use Rattle.interface.specs.ControllerCalls.{Call, refusal, resetCall, transferCall}
 use Rattle.interface.specs.Filling.{Filling}
 use Rattle.interface.specs.LineCalls.{readCall, writeCall}
-use Rattle.interface.specs.PictureCalls.{pictureCall}
+use Rattle.interface.specs.PictureCalls.{pictureCall, sizeOf}
 use Rattle.interface.specs.PlanCalls.{planCall}
 use Rattle.interface.specs.RecordBytes.{recordBytes, isRecordLong, recordIn}
 use Rattle.interface.specs.WishBytes.{wishBytes, wishIn}
@@ -119,7 +119,8 @@ pub record CallAnswers : Type 0 where
   pub transfer : (bytes mem : List ℕ) (kind byte wait : ℕ)
       → Tells (transferCall bytes mem kind byte wait .returned) (recordRows (recordIn bytes) (λ rec. transferRows rec mem kind byte wait))
   pub picture : (bytes mem : List ℕ) (columns lines lit : ℕ) (out : List ℕ)
-      → Tells (pictureCall bytes mem columns lines lit out .returned) (recordRows (recordIn bytes) (λ rec. pictureRows rec mem columns lines (length out)))
+      → Tells (pictureCall bytes mem columns lines lit out .returned)
+      (recordRows (recordIn bytes) (λ rec. pictureRows rec mem (sizeOf columns lines) (length out)))
   pub plan : (wish marks values out : List ℕ) → Tells (planCall wish marks values out .returned) (planCallRows (wishIn wish) marks values out)
   pub write-line : (kind byte wait : ℕ) (out : List ℕ) → Tells (writeCall kind byte wait out .returned) (writerRows kind byte out)
   pub read-line : (text out : List ℕ) → ReadTells (readCall text out .returned) text out

@@ -9,7 +9,9 @@ use crate::record_bytes::is_record_long;
 use crate::record_bytes::read_record;
 use crate::record_bytes::record_from;
 use crate::record_bytes::write_record;
+use crate::told::refused;
 use crate::told::returned;
+use controller::Answer;
 use controller::Outcome;
 use controller::Record;
 use controller::is_whole;
@@ -56,7 +58,7 @@ pub extern "C" fn yaropesk_transfer(
 {
     let read = read_record(bytes);
     match read {
-        ReadRecord::Broken => 1,
+        ReadRecord::Broken => refused(Answer::Unsound),
         ReadRecord::Is(rec) => transfer_from(rec, bytes, memory, kind, byte, wait),
     }
 }
@@ -76,10 +78,10 @@ pub extern "C" fn yaropesk_reset(bytes: &mut [u8], memory: &mut [u8]) -> u32
     ensures { λ r. ⌜ Leaves (resetCall (now (bytes .entry)) (now (memory .entry))) r (now (bytes .exit)) (now (memory .exit)) ⌝ }
 {
     if !is_record_long(bytes) {
-        return 1;
+        return refused(Answer::Unsound);
     }
     if !is_whole(memory) {
-        return 2;
+        return refused(Answer::NotWhole);
     }
     reset_from(bytes, memory)
 }

@@ -5,8 +5,10 @@ ghost use Rattle.planner.specs.Call.{replyTo};
 ghost use Rattle.interface.specs.Filling.{Fills};
 ghost use Rattle.interface.specs.PlanCalls.{planCall, planningOf, wishless};
 use crate::told::counted;
+use crate::told::refused;
 use crate::wish_bytes::ReadWish;
 use crate::wish_bytes::read_wish;
+use controller::Answer;
 use controller::is_whole;
 use planner::Wish;
 use planner::plan;
@@ -25,12 +27,12 @@ fn refuse_wish(marks: &[u8], values: &[u8]) -> u32
     ensures { λ r. ⌜ r ≡ numberOf (wishless (now (marks .entry)) (now (values .entry))) ⌝ }
 {
     if !is_whole(marks) {
-        return 2;
+        return refused(Answer::NotWhole);
     }
     if !is_whole(values) {
-        return 2;
+        return refused(Answer::NotWhole);
     }
-    13
+    refused(Answer::NotWish)
 }
 
 // The plan for a wish, six bytes a record, into a buffer of at least 2,808 bytes.

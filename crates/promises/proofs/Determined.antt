@@ -46,8 +46,9 @@ each-determined =
       line-length = λ n. one _;
       short-time = one _;
       long-time = one _;
-      picture = λ rec mem columns lines lit out. two _ _ _ (record { told = refl; number = refl; out = refl }) (λ a l is. (is .told, is .out));
+      picture = λ rec mem size lit out. two _ _ _ (record { told = refl; number = refl; out = refl }) (λ a l is. (is .told, is .out));
       rows-of = λ function. one _;
+      is-shown = λ n shift size cell. one _;
       plan = λ wish marks values out. two _ _ _ (record { told = refl; number = refl; buffer = refl }) (λ a l is. (is .told, is .buffer));
       read-line = λ text. one _;
       write-line = λ kind byte wait out. two _ _ _ (record { told = refl; number = refl; buffer = refl }) (λ a l is. (is .told, is .buffer));
@@ -55,7 +56,7 @@ each-determined =
       write-header = λ out. two _ _ _ (record { told = refl; number = refl; buffer = refl }) (λ a l is. (is .told, is .buffer));
       play = λ text out. two _ _ _ (record { told = refl; number = refl; buffer = refl }) (λ a l is. (is .told, is .buffer));
       play-through = λ text. one _;
-      draw = λ form rec mem columns lines lit out. two _ _ _ (record { told = refl; number = refl; out = refl }) (λ a l is. (is .told, is .out));
+      draw = λ form rec mem size lit out. two _ _ _ (record { told = refl; number = refl; out = refl }) (λ a l is. (is .told, is .out));
       yaropesk-reset = λ bytes mem.
           three _ _ _ _ (record { told = refl; rec = refl; memory = refl }) (λ a b l is. (is .told, is .rec, is .memory));
       yaropesk-transfer = λ bytes mem kind byte wait.

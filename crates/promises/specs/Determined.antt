@@ -20,7 +20,8 @@ use Rattle.controller.specs.declared.«record».Record.{Record}
 use Rattle.controller.specs.declared.«record».Function.{Function}
 use Rattle.drawing.specs.declared.drawing.Form.{Form}
 use Rattle.drawing.specs.Drawing.{Drawn}
-use Rattle.dots.specs.Geometry.{height}
+use Rattle.dots.specs.declared.geometry.Size.{Size}
+use Rattle.dots.specs.Geometry.{height, isShown}
 use Rattle.dots.specs.Picture.{Pictured}
 use Rattle.interface.specs.ControllerCalls.{Leaves, resetCall, transferCall}
 use Rattle.interface.specs.Filling.{Fills}
@@ -66,9 +67,10 @@ pub record EachDetermined : Type 0 where
   pub line-length : (n : Bool) → ExactlyOne (λ (x : ℕ). x ≡ lineLength n)
   pub short-time : ExactlyOne (λ (x : ℕ). x ≡ shortTime)
   pub long-time : ExactlyOne (λ (x : ℕ). x ≡ longTime)
-  pub picture : (rec : Record) (mem : List ℕ) (columns lines : ℕ) (lit : Bool) (out : List ℕ)
-      → ExactlyOne (λ (x : Answer × List ℕ). Pictured rec mem columns lines lit out (x .0) (x .1))
+  pub picture : (rec : Record) (mem : List ℕ) (size : Size) (lit : Bool) (out : List ℕ)
+      → ExactlyOne (λ (x : Answer × List ℕ). Pictured rec mem size lit out (x .0) (x .1))
   pub rows-of : (function : Function) → ExactlyOne (λ (x : ℕ). x ≡ height function)
+  pub is-shown : (n : Bool) (shift : ℕ) (size : Size) (cell : ℕ) → ExactlyOne (λ (x : Bool). x ≡ isShown n shift size cell)
   pub plan : (wish : Wish) (marks values out : List ℕ)
       → ExactlyOne (λ (x : Planned × List ℕ). Plans (replyTo wish marks values out) out (x .0) (x .1))
   pub read-line : (text : List ℕ) → ExactlyOne (λ (x : Line). x ≡ lineOf text)
@@ -79,8 +81,8 @@ pub record EachDetermined : Type 0 where
   pub write-header : (out : List ℕ) → ExactlyOne (λ (x : Written × List ℕ). Writes (wanting 20 header out) out (x .0) (x .1))
   pub play : (text out : List ℕ) → ExactlyOne (λ (x : Written × List ℕ). Writes (playing text out) out (x .0) (x .1))
   pub play-through : (text : List ℕ) → ExactlyOne (λ (x : Standing). x ≡ standing text)
-  pub draw : (form : Form) (rec : Record) (mem : List ℕ) (columns lines : ℕ) (lit : Bool) (out : List ℕ)
-      → ExactlyOne (λ (x : Written × List ℕ). Drawn form rec mem columns lines lit out (x .0) (x .1))
+  pub draw : (form : Form) (rec : Record) (mem : List ℕ) (size : Size) (lit : Bool) (out : List ℕ)
+      → ExactlyOne (λ (x : Written × List ℕ). Drawn form rec mem size lit out (x .0) (x .1))
   pub yaropesk-reset : (bytes mem : List ℕ)
       → ExactlyOne (λ (x : ℕ × List ℕ × List ℕ). Leaves (resetCall bytes mem) (x .0) (x .1) (x .2))
   pub yaropesk-transfer : (bytes mem : List ℕ) (kind byte wait : ℕ)

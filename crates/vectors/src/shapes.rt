@@ -32,7 +32,11 @@ fn plain() -> Record {
 fn shape_of(code: u8) -> [u8; 8] {
     let memory = [code; 144];
     let mut shape = [0u8; 8];
-    dots::picture(plain(), &memory, 1, 1, false, &mut shape);
+    let size = dots::Size {
+        columns: 1,
+        lines: 1,
+    };
+    dots::picture(plain(), &memory, size, false, &mut shape);
     shape
 }
 

@@ -11,7 +11,7 @@ last-x-requires : tie.Need-last-x-requires
 last-x-requires c κs = search needs
 
 add-result : tie.Need-add-result
-add-result c = omega (arith, c .last-x .ensures, last-x-most (c .before .args .size) (c .before .pre))
+add-result c = omega (arith, c .last-x .ensures, last-x-most (c .before .args .grid) (c .before .pre))
 
 returns : tie.Need-returns
 unfolding frameWidth

@@ -14,22 +14,22 @@ frame-width-requires : tie.Need-frame-width-requires
 frame-width-requires c κs = search needs
 
 rem-frame-at : tie.Need-rem-frame-at
-rem-frame-at c = rw (c .frame-width .ensures) (width-some (c .before .before .before .before .args .size))
+rem-frame-at c = rw (c .frame-width .ensures) (width-some (c .before .before .before .before .args .grid))
 
 frame-width-requires-2 : tie.Need-frame-width-requires-2
 frame-width-requires-2 c κs = search needs
 
 div-frame-at : tie.Need-div-frame-at
-div-frame-at c = rw (c .frame-width2 .ensures) (width-some (c .before .before .before .before .before .args .size))
+div-frame-at c = rw (c .frame-width2 .ensures) (width-some (c .before .before .before .before .before .args .grid))
 
 frame-at-requires : tie.Need-frame-at-requires
 frame-at-requires c κs =
     let start = c .before .before .before .before .before in
-    let size = start .args .size in
+    let grid = start .args .grid in
     let inside = rw (c .before .before .before .frame-length .ensures) at (c .before .before .if1 .taken) in (
       start .pre,
-      rw (c .before .frame-width .ensures) (frame-column size (start .pre) (start .args .place)),
-      rw (c .frame-width2 .ensures) (frame-row size (start .pre) (start .args .place) inside),
+      rw (c .before .frame-width .ensures) (frame-column grid (start .pre) (start .args .place)),
+      rw (c .frame-width2 .ensures) (frame-row grid (start .pre) (start .args .place) inside),
     )
 
 returns : tie.Need-returns

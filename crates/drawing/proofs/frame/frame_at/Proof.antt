@@ -13,7 +13,7 @@ last-x-requires : tie.Need-last-x-requires
 last-x-requires c κs = search needs
 
 add-if1 : tie.Need-add-if1
-add-if1 c = omega (arith, c .last-x .ensures, last-x-most (c .before .before .args .size) (c .before .before .pre .0))
+add-if1 c = omega (arith, c .last-x .ensures, last-x-most (c .before .before .args .grid) (c .before .before .pre .0))
 
 returns : tie.Need-returns
 unfolding frameAt

@@ -1,5 +1,3 @@
--- `interface::record_bytes::record_from` meets its contract: each field is read where `recordFrom` reads it.
--- Assumes nothing.
 use Rattle.interface.specs.RecordBytes.{recordFrom}
 use borrow.Author.Needs.{needs}
 use Rattle.interface.proofs.record_bytes.record_from.Statement.{statement}
