@@ -44,7 +44,8 @@ lineRead kind byte wait = record { answer = Done; kind = kind; byte = byte; wait
 
 -- What was written reads back as the same transfer, with any text after it.
 abbrev pub WrittenReadsBack : Type 0
-WrittenReadsBack = (kind byte wait : ℕ) (more : List ℕ) → Sayable kind byte wait → lineOf (line kind byte wait ++ more) ≡ lineRead kind byte wait
+WrittenReadsBack =
+    (kind byte wait : ℕ) (more : List ℕ) → Sayable kind byte wait → lineOf (line kind byte wait ++ more) ≡ lineRead kind byte wait
 
 -- So a buffer into which a line was written reads back as the same transfer, whatever stands after the line.
 abbrev pub BufferReadsBack : Type 0
@@ -83,7 +84,9 @@ writerRows kind byte out =
 
 -- Each number is given exactly where its row applies and none before it in the order.
 abbrev pub WriterAnswers : Type 0
-WriterAnswers = (kind byte wait : ℕ) (out : List ℕ) (n : ℕ) → (numberOf (lineWriting kind byte wait out .answer) ≡ n) ↔ Given n (writerRows kind byte out)
+WriterAnswers =
+    (kind byte wait : ℕ) (out : List ℕ) (n : ℕ)
+    → (numberOf (lineWriting kind byte wait out .answer) ≡ n) ↔ Given n (writerRows kind byte out)
 
 -- The row of a call for which the buffer must have this size: 11.
 unfoldable pub wantingRows : ℕ → List ℕ → List Row
@@ -91,7 +94,8 @@ wantingRows size out = record { number = 11; applies = ltb (length out) size } �
 
 -- A call that writes a report's row or header gives 11 exactly where the buffer is shorter than wanted.
 abbrev pub TextAnswers : Type 0
-TextAnswers = (size : ℕ) (text out : List ℕ) (n : ℕ) → (numberOf (wanting size text out .answer) ≡ n) ↔ Given n (wantingRows size out)
+TextAnswers =
+    (size : ℕ) (text out : List ℕ) (n : ℕ) → (numberOf (wanting size text out .answer) ≡ n) ↔ Given n (wantingRows size out)
 
 -- A line is at most 16 bytes, so that the buffer that the writer wants takes it.
 abbrev pub LinesFit : Type 0

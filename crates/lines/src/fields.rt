@@ -25,7 +25,8 @@ pub fn put_decimal(number: u64, out: &mut [u8], at: usize) -> usize
 // A number in decimal and the byte that ends it.
 pub fn put_number_field(number: u64, end: u8, out: &mut [u8], at: usize) -> usize
     requires { ⌜ at + length (numberField number end) ≤ length (now out) ⌝ }
-    ensures { λ r. ⌜ (r ≡ at + length (numberField number end)) × (now (out .exit) ≡ sets (now (out .entry)) at (numberField number end)) ⌝ }
+    ensures { λ r. ⌜ (r ≡ at + length (numberField number end))
+        × (now (out .exit) ≡ sets (now (out .entry)) at (numberField number end)) ⌝ }
 {
     let last = put_decimal(number, out, at);
     out[last] = end;

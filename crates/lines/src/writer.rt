@@ -29,7 +29,8 @@ fn put_line(kind: u8, byte: u8, wait: u32, out: &mut [u8]) -> usize
 
 fn put_row(number: u64, answer: u8, byte: u8, busy: u32, out: &mut [u8]) -> usize
     requires { ⌜ rowSize ≤ length (now out) ⌝ }
-    ensures { λ r. ⌜ (r ≡ length (row number answer byte busy)) × (now (out .exit) ≡ sets (now (out .entry)) 0 (row number answer byte busy)) ⌝ }
+    ensures { λ r. ⌜ (r ≡ length (row number answer byte busy))
+        × (now (out .exit) ≡ sets (now (out .entry)) 0 (row number answer byte busy)) ⌝ }
 {
     let second = put_number_field(number, b'\t', out, 0);
     let third = put_number_field(answer as u64, b'\t', out, second);
@@ -62,7 +63,8 @@ pub fn write_line(kind: u8, byte: u8, wait: u32, out: &mut [u8]) -> Written
 
 // A report's row, into a buffer of at least 42 bytes.
 pub fn write_row(number: u64, answer: u8, byte: u8, busy: u32, out: &mut [u8]) -> Written
-    ensures { λ r. ⌜ Writes (wanting rowSize (row number answer byte busy) (now (out .entry))) (now (out .entry)) r (now (out .exit)) ⌝ }
+    ensures { λ r. ⌜ Writes (wanting rowSize (row number answer byte busy) (now (out .entry)))
+        (now (out .entry)) r (now (out .exit)) ⌝ }
 {
     if out.len() < 42 {
         return Written {

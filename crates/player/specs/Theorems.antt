@@ -51,12 +51,14 @@ PlayAnswers = (text out : List ℕ) (n : ℕ) → (numberOf (playing text out .a
 -- No second answer fits.
 abbrev pub OnePlay : Type 0
 OnePlay =
-    (text out : List ℕ) (a b : Written) (x y : List ℕ) → Writes (playing text out) out a x → Writes (playing text out) out b y → (a ≡ b) × (x ≡ y)
+    (text out : List ℕ) (a b : Written) (x y : List ℕ)
+    → Writes (playing text out) out a x → Writes (playing text out) out b y → (a ≡ b) × (x ≡ y)
 
 -- And two standings that both are what play_through promises are one.
 abbrev pub OneStanding : Type 0
 OneStanding = (text : List ℕ) (a b : Standing) → a ≡ standing text → b ≡ standing text → a ≡ b
 
--- Every text leaves a sound record and a memory of 144 bytes, so that no picture of it and no transfer after it is answered 1 or 2.
+-- Every text leaves a sound record and a memory of 144 bytes, so that no picture of it and no transfer after it is answered 1
+-- or 2.
 abbrev pub StandingTold : Type 0
 StandingTold = (text : List ℕ) → (sound (standing text .rec) ≡ true) × (length (standing text .memory) ≡ 144)

@@ -70,12 +70,15 @@ pub record Tells (rows : Bool) (text : List ℕ) (at : ℕ) (out : List ℕ) (ne
   pub buffer : out′ ≡ sets out at (wanted rows text)
 
 -- The walk has gone on: what is left comes to the same.
-pub record Went (rows : Bool) (text : List ℕ) (place : Place) (mem out : List ℕ) (next : Place) (mem′ out′ : List ℕ) : Type 0 where
+pub record Went (rows : Bool) (text : List ℕ) (place : Place) (mem out : List ℕ) (next : Place) (mem′ out′ : List ℕ)
+    : Type 0 where
   pub further : place .from < next .from
   pub fits : Fits rows text out′ next
   pub left : walkedFrom rows text next mem′ out′ ≡ walkedFrom rows text place mem out
 
 -- A line played: the walk goes on after it, or it was a bad one and ends the walk.
-pub record Played (rows : Bool) (text : List ℕ) (place : Place) (mem out : List ℕ) (ended : Ended) (mem′ out′ : List ℕ) : Type 0 where
+pub record Played (rows : Bool) (text : List ℕ) (place : Place) (mem out : List ℕ) (ended : Ended) (mem′ out′ : List ℕ)
+    : Type 0 where
   pub goes : isDone (ended .answer) ≡ true → Went rows text place mem out (ended .place) mem′ out′
-  pub stops : isDone (ended .answer) ≡ false → endedAt (ended .answer) (ended .place) mem′ out′ ≡ walkedFrom rows text place mem out
+  pub stops : isDone (ended .answer) ≡ false
+      → endedAt (ended .answer) (ended .place) mem′ out′ ≡ walkedFrom rows text place mem out

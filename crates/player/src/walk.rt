@@ -52,7 +52,8 @@ fn tell(
 // Plays the line at a place. A bad one is told, and nothing is sent.
 fn play_line(text: &[u8], rows: bool, place: Place, memory: &mut [u8], out: &mut [u8]) -> Ended
     requires { ⌜ Fits rows (now text) (now out) place × (place .from < length (now text)) ⌝ }
-    ensures { λ r. ⌜ Played rows (now (text .entry)) place (now (memory .entry)) (now (out .entry)) r (now (memory .exit)) (now (out .exit)) ⌝ }
+    ensures { λ r. ⌜ Played rows (now (text .entry)) place (now (memory .entry)) (now (out .entry))
+        r (now (memory .exit)) (now (out .exit)) ⌝ }
 {
     let from = place.from;
     let line = read_line(&text[from..]);
@@ -92,7 +93,8 @@ fn play_line(text: &[u8], rows: bool, place: Place, memory: &mut [u8], out: &mut
 // Plays what is left of a text from a place on, to its end or to a bad line.
 pub fn walk(text: &[u8], rows: bool, start: Place, memory: &mut [u8], out: &mut [u8]) -> Ended
     requires { ⌜ Fits rows (now text) (now out) start ⌝ }
-    ensures { λ r. ⌜ endedAt (r .answer) (r .place) (now (memory .exit)) (now (out .exit)) ≡ walkedFrom rows (now (text .entry)) start (now (memory .entry)) (now (out .entry)) ⌝ }
+    ensures { λ r. ⌜ endedAt (r .answer) (r .place) (now (memory .exit)) (now (out .exit))
+        ≡ walkedFrom rows (now (text .entry)) start (now (memory .entry)) (now (out .entry)) ⌝ }
 {
     let mut place = start;
     while place.from < text.len() {
