@@ -5,6 +5,7 @@ use mathlib.Core.List.{List, [], _∷_, _++_}
 use Prim.Native.Char.{code}
 use Prim.Native.Nat.{ℕ}
 use lib.Dec.{eqb}
+use Rattle.controller.specs.declared.sent.Sent.{Sent}
 use Rattle.lines.specs.Digits.{tab, newline, byteField, numberField}
 
 -- The letter of a kind: `I`, `D`, `S` or `R`.
@@ -24,6 +25,11 @@ kindField kind = letterOf kind ∷ tab ∷ []
 -- A line: kind, byte, wait, and a newline.
 unfoldable pub line : ℕ → ℕ → ℕ → List ℕ
 line kind byte wait = kindField kind ++ (byteField byte ++ numberField wait newline)
+
+-- The lines of these transfers, one after the other.
+unfoldable pub linesOf : List Sent → List ℕ
+linesOf [] = []
+linesOf (t ∷ ts) = line (t .kind) (t .byte) (t .wait) ++ linesOf ts
 
 -- The largest wait.
 abbrev pub waitLimit : ℕ

@@ -2,9 +2,10 @@
 -- result meets the promise, and no second does. A result is what is returned, and with it each lent list as it is left.
 -- Assumes nothing.
 use mathlib.Core.Bool.{Bool}
-use mathlib.Core.List.{List}
+use mathlib.Core.List.{List, [], _∷_}
 use mathlib.Core.Path.{_≡_}
 use Prim.Native.Nat.{ℕ}
+use lib.ListN.{take}
 use Rattle.controller.specs.Bus.{whole, badTransfer, decided, resetDecided, Performs, PerformsIn}
 use Rattle.controller.specs.Cells.{cellOf, lineLength, addressSet}
 use Rattle.controller.specs.Answers.{numberOf, isDone, isRefusal}
@@ -28,8 +29,10 @@ use Rattle.interface.specs.Filling.{Fills}
 use Rattle.interface.specs.LineCalls.{readCall, writeCall}
 use Rattle.interface.specs.PictureCalls.{pictureCall}
 use Rattle.interface.specs.PlanCalls.{planCall}
+use Rattle.lines.specs.Digits.{digit, decimal, hexPair}
 use Rattle.lines.specs.Reading.{lineOf}
 use Rattle.lines.specs.ReportText.{header, row, rowSize}
+use Rattle.lines.specs.Text.{put, putting}
 use Rattle.lines.specs.Writing.{Writes, lineWriting, wanting}
 use Rattle.lines.specs.declared.reader.Line.{Line}
 use Rattle.lines.specs.declared.writer.Written.{Written}
@@ -73,6 +76,13 @@ pub record EachDetermined : Type 0 where
   pub is-shown : (n : Bool) (shift : ℕ) (size : Size) (cell : ℕ) → ExactlyOne (λ (x : Bool). x ≡ isShown n shift size cell)
   pub plan : (wish : Wish) (marks values out : List ℕ)
       → ExactlyOne (λ (x : Planned × List ℕ). Plans (replyTo wish marks values out) out (x .0) (x .1))
+  pub hex-digit : (number : ℕ) → ExactlyOne (λ (x : ℕ). x ≡ digit number)
+  pub put-byte : (out : List ℕ) (at byte : ℕ) → ExactlyOne (λ (x : ℕ × List ℕ). put (x .0) (x .1) ≡ putting (put at out) (byte ∷ []))
+  pub put-text : (out : List ℕ) (at : ℕ) (text : List ℕ) → ExactlyOne (λ (x : ℕ × List ℕ). put (x .0) (x .1) ≡ putting (put at out) text)
+  pub put-number : (out : List ℕ) (at number : ℕ)
+      → ExactlyOne (λ (x : ℕ × List ℕ). put (x .0) (x .1) ≡ putting (put at out) (decimal number))
+  pub put-hex : (out : List ℕ) (at byte : ℕ) → ExactlyOne (λ (x : ℕ × List ℕ). put (x .0) (x .1) ≡ putting (put at out) (hexPair byte))
+  pub first : (bytes : List ℕ) (count : ℕ) → ExactlyOne (λ (x : List ℕ). x ≡ take count bytes)
   pub read-line : (text : List ℕ) → ExactlyOne (λ (x : Line). x ≡ lineOf text)
   pub write-line : (kind byte wait : ℕ) (out : List ℕ)
       → ExactlyOne (λ (x : Written × List ℕ). Writes (lineWriting kind byte wait out) out (x .0) (x .1))

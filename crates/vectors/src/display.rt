@@ -9,11 +9,11 @@ use crate::record::see_record;
 use crate::shapes::cursor_position;
 use crate::shapes::dots;
 use crate::shapes::letter_at;
-use crate::text::put_byte;
-use crate::text::put_hex;
-use crate::text::put_text;
 use crate::text::put_two;
 use controller::Record;
+use lines::put_byte;
+use lines::put_hex;
+use lines::put_text;
 
 // Sixteen letters from this position on.
 fn put_letters(

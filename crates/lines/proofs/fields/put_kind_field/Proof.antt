@@ -1,4 +1,4 @@
--- `lines::fields::put_kind` meets its contract: two stores, one after the other, are the field.
+-- `lines::fields::put_kind_field` meets its contract: two stores, one after the other, are the field.
 -- Assumes nothing.
 use Rattle.lines.specs.Line.{kindField}
 use mathlib.Core.Path.{refl}
@@ -6,8 +6,8 @@ use native.Mathlib.Omega.{arith}
 use native.Mathlib.Numerals.{add-one}
 use lib.ListN.{length-set}
 use borrow.Author.Needs.{needs}
-use Rattle.lines.proofs.fields.put_kind.Statement.{statement}
-use Rattle.lines.proofs.fields.put_kind.Tie as tie
+use Rattle.lines.proofs.fields.put_kind_field.Statement.{statement}
+use Rattle.lines.proofs.fields.put_kind_field.Tie as tie
 
 letter-for-requires : tie.Need-letter-for-requires
 letter-for-requires c κs = search needs
@@ -31,8 +31,8 @@ returns : tie.Need-returns
 unfolding kindField
 returns c = (refl, simp (c .letter-for .ensures, add-one))
 
-pub put-kind-spec : {M : Type 1} → statement M
-put-kind-spec =
+pub put-kind-field-spec : {M : Type 1} → statement M
+put-kind-field-spec =
     tie.close
     (tie.spec
     letter-for-requires

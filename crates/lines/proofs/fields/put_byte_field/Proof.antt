@@ -1,4 +1,4 @@
--- `lines::fields::put_byte` meets its contract: three stores, one after the other, are the field.
+-- `lines::fields::put_byte_field` meets its contract: three stores, one after the other, are the field.
 -- Assumes nothing.
 use Rattle.lines.specs.Digits.{byteField}
 use mathlib.Core.Path.{_≡_, refl}
@@ -6,8 +6,8 @@ use Prim.Native.Nat.{suc, _+_}
 use native.Mathlib.Omega.{arith}
 use lib.ListN.{length-set}
 use borrow.Author.Needs.{needs}
-use Rattle.lines.proofs.fields.put_byte.Statement.{statement}
-use Rattle.lines.proofs.fields.put_byte.Tie as tie
+use Rattle.lines.proofs.fields.put_byte_field.Statement.{statement}
+use Rattle.lines.proofs.fields.put_byte_field.Tie as tie
 
 hex-digit-requires : tie.Need-hex-digit-requires
 hex-digit-requires c κs = search needs
@@ -44,8 +44,8 @@ returns c =
     let two : place + 2 ≡ suc (suc place) = omega arith in
     (refl, simp (c .hex-digit2 .ensures, c .before .hex-digit .ensures, one, two))
 
-pub put-byte-spec : {M : Type 1} → statement M
-put-byte-spec =
+pub put-byte-field-spec : {M : Type 1} → statement M
+put-byte-field-spec =
     tie.close
     (tie.spec
     hex-digit-requires

@@ -1,4 +1,4 @@
--- `lines::fields::put_number` meets its contract: the digits, then the byte that ends the field, one place on.
+-- `lines::fields::put_number_field` meets its contract: the digits, then the byte that ends the field, one place on.
 -- Assumes nothing.
 use native.Mathlib.Omega.{arith}
 use Rattle.lines.specs.Digits.{decimal, numberField}
@@ -6,8 +6,8 @@ use Rattle.lines.proofs.Laws.Buffer.{sets-more}
 use Rattle.lines.proofs.Laws.Digits.{field-length}
 use mathlib.Core.Path.{refl}
 use borrow.Author.Needs.{needs}
-use Rattle.lines.proofs.fields.put_number.Statement.{statement}
-use Rattle.lines.proofs.fields.put_number.Tie as tie
+use Rattle.lines.proofs.fields.put_number_field.Statement.{statement}
+use Rattle.lines.proofs.fields.put_number_field.Tie as tie
 
 put-decimal-requires : tie.Need-put-decimal-requires
 put-decimal-requires c κs =
@@ -38,6 +38,6 @@ returns c =
       sets-more (start .args .out .now) (start .args .at) (decimal (start .args .number)) (start .args .end) (call .put-decimal .ensures .1) (call .put-decimal .ensures .0) refl,
     )
 
-pub put-number-spec : {M : Type 1} → statement M
-put-number-spec =
+pub put-number-field-spec : {M : Type 1} → statement M
+put-number-field-spec =
     tie.close (tie.spec put-decimal-requires slice-write-out add-result same-length returns)
