@@ -2,10 +2,17 @@
 mod digits;
 mod fields;
 mod reader;
+mod text;
 mod writer;
 
+pub use digits::hex_digit;
 pub use reader::Line;
 pub use reader::read_line;
+pub use text::first;
+pub use text::put_byte;
+pub use text::put_hex;
+pub use text::put_number;
+pub use text::put_text;
 pub use writer::Written;
 pub use writer::write_header;
 pub use writer::write_line;

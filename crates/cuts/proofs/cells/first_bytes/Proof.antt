@@ -1,5 +1,4 @@
--- `cuts::cells::first_bytes` meets its contract: the measure is the cells that are left.
--- Assumes nothing.
+-- `cuts::cells::first_bytes` is safe and ends: the measure is the cells that are left.
 use Prim.Native.Nat.{_-_, _≤_}
 use borrow.Author.Needs.{needs}
 use Rattle.cuts.proofs.cells.first_bytes.Statement.{statement}

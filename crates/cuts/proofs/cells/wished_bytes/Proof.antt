@@ -1,5 +1,4 @@
--- `cuts::cells::wished_bytes` meets its contract: the measure is the cells that are left.
--- Assumes nothing.
+-- `cuts::cells::wished_bytes` is safe and ends: the measure is the cells that are left.
 use Prim.Native.Nat.{_-_, _≤_}
 use borrow.Author.Needs.{needs}
 use Rattle.cuts.proofs.cells.wished_bytes.Statement.{statement}
