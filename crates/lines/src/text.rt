@@ -1,6 +1,6 @@
 // Text put into a lent buffer at a place, for reports whose length is not known before: what does not fit is left out. Each
 // function returns the place after what it put.
-ghost use mathlib.Core.List.{[], _∷_, _++_};
+ghost use mathlib.Core.List.{[], _∷_};
 ghost use mathlib.Core.Path.{_≡_};
 ghost use lib.ListN.{take};
 ghost use Rattle.lines.specs.Digits.{decimal, hexPair};
