@@ -6,6 +6,7 @@ mod text;
 mod writer;
 
 pub use digits::hex_digit;
+pub use digits::worth_of;
 pub use reader::Line;
 pub use reader::read_line;
 pub use text::first;
