@@ -1,7 +1,6 @@
 // Sends plans to the controller, cut and whole.
 ghost use Prim.Native.Nat.{_<_, _≤_};
-use crate::cells::first_bytes;
-use crate::cells::wished_bytes;
+use crate::cells::cell_bytes;
 use crate::starts::excepted;
 use crate::starts::start_of;
 use crate::verdict::Played;
@@ -37,7 +36,7 @@ pub fn lay_out(wish: u8, plan: &mut [u8; 2808]) -> usize
     ensures { λ r. ⌜ r ≤ 468 ⌝ }
 {
     let marks = marks_of(wish);
-    let values = wished_bytes();
+    let values = cell_bytes(true);
     let planned = planner::plan(wish_of(wish), &marks, &values, plan);
     limit(planned.count)
 }
@@ -90,7 +89,7 @@ fn play(plan: &[u8; 2808], count: usize, memory: &mut [u8; 144], played: Played)
 pub fn play_run(plan: &[u8; 2808], count: usize, run: Run) -> Verdict
     requires { ⌜ (count ≤ 468) × (run .first ≤ 468) × (run .second ≤ 468) ⌝ }
 {
-    let mut memory = first_bytes();
+    let mut memory = cell_bytes(false);
     let start = start_of(run.start);
     let begun = Played {
         rec: start,

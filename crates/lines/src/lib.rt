@@ -1,4 +1,5 @@
-// Session lines and the rows of a report, read and written as text. Document 01, "Session lines".
+// Session lines and the rows of a report, read and written as text; digits, and text put into a lent buffer. Document 01,
+// "Session lines".
 mod digits;
 mod fields;
 mod reader;
@@ -6,6 +7,7 @@ mod text;
 mod writer;
 
 pub use digits::hex_digit;
+pub use digits::worth_of;
 pub use reader::Line;
 pub use reader::read_line;
 pub use text::first;

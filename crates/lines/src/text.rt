@@ -1,6 +1,6 @@
 // Text put into a lent buffer at a place, for reports whose length is not known before: what does not fit is left out. Each
 // function returns the place after what it put.
-ghost use mathlib.Core.List.{[], _∷_, _++_};
+ghost use mathlib.Core.List.{[], _∷_};
 ghost use mathlib.Core.Path.{_≡_};
 ghost use lib.ListN.{take};
 ghost use Rattle.lines.specs.Digits.{decimal, hexPair};
@@ -8,6 +8,7 @@ ghost use Rattle.lines.specs.Text.{put, putting};
 use crate::digits::hex_digit;
 use crate::fields::put_decimal;
 
+// One byte.
 pub fn put_byte(out: &mut [u8], at: usize, byte: u8) -> usize
     ensures { λ r. ⌜ put r (now (out .exit)) ≡ putting (put at (now (out .entry))) (byte ∷ []) ⌝ }
 {
@@ -18,6 +19,7 @@ pub fn put_byte(out: &mut [u8], at: usize, byte: u8) -> usize
     at + 1
 }
 
+// A text, byte by byte.
 pub fn put_text(out: &mut [u8], at: usize, text: &[u8]) -> usize
     ensures { λ r. ⌜ put r (now (out .exit)) ≡ putting (put at (now (out .entry))) (now (text .entry)) ⌝ }
 {

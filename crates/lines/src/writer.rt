@@ -9,6 +9,7 @@ ghost use Rattle.lines.specs.Writing.{Writes, lineWriting, wanting};
 use crate::fields::put_byte_field;
 use crate::fields::put_kind_field;
 use crate::fields::put_number_field;
+use crate::text::put_text;
 use controller::Answer;
 use controller::is_bad;
 
@@ -89,14 +90,9 @@ pub fn write_header(out: &mut [u8]) -> Written
             length: 0,
         };
     }
-    let text = b"no\tanswer\tbyte\tbusy\n";
-    let mut at = 0;
-    while at < 20 {
-        out[at] = text[at];
-        at += 1;
-    }
+    let length = put_text(out, 0, b"no\tanswer\tbyte\tbusy\n");
     Written {
         answer: Answer::Done,
-        length: 20,
+        length,
     }
 }

@@ -29,7 +29,7 @@ use Rattle.interface.specs.Filling.{Fills}
 use Rattle.interface.specs.LineCalls.{readCall, writeCall}
 use Rattle.interface.specs.PictureCalls.{pictureCall}
 use Rattle.interface.specs.PlanCalls.{planCall}
-use Rattle.lines.specs.Digits.{digit, decimal, hexPair}
+use Rattle.lines.specs.Digits.{digit, worthOf, decimal, hexPair}
 use Rattle.lines.specs.Reading.{lineOf}
 use Rattle.lines.specs.ReportText.{header, row, rowSize}
 use Rattle.lines.specs.Text.{put, putting}
@@ -77,6 +77,7 @@ pub record EachDetermined : Type 0 where
   pub plan : (wish : Wish) (marks values out : List ℕ)
       → ExactlyOne (λ (x : Planned × List ℕ). Plans (replyTo wish marks values out) out (x .0) (x .1))
   pub hex-digit : (number : ℕ) → ExactlyOne (λ (x : ℕ). x ≡ digit number)
+  pub worth-of : (byte : ℕ) → ExactlyOne (λ (x : ℕ). x ≡ worthOf byte)
   pub put-byte : (out : List ℕ) (at byte : ℕ) → ExactlyOne (λ (x : ℕ × List ℕ). put (x .0) (x .1) ≡ putting (put at out) (byte ∷ []))
   pub put-text : (out : List ℕ) (at : ℕ) (text : List ℕ) → ExactlyOne (λ (x : ℕ × List ℕ). put (x .0) (x .1) ≡ putting (put at out) text)
   pub put-number : (out : List ℕ) (at number : ℕ)

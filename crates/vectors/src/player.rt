@@ -5,6 +5,7 @@ use crate::row::first_byte;
 use crate::row::is_halved;
 use crate::row::second_byte;
 use crate::row::wait_of;
+use controller::Counter;
 use controller::Record;
 use controller::after_reset;
 use controller::is_refusal;
@@ -17,13 +18,23 @@ pub struct Played {
     pub refused: bool,
 }
 
-// The record before power on. Reset takes any, so it does not matter which.
+// The record before power on. Reset takes any; this one differs from what reset leaves wherever the manuals look.
 pub fn unpowered() -> Record {
     let mut rec = after_reset();
     rec.wide = false;
+    rec.function.n = true;
+    rec.function.f = true;
     rec.control.d = true;
+    rec.control.c = true;
+    rec.control.b = true;
+    rec.entry.id = false;
+    rec.entry.s = true;
     rec.shift = 79;
-    rec
+    rec.busy = 0;
+    Record {
+        counter: Counter::Pattern(63),
+        ..rec
+    }
 }
 
 fn send(memory: &mut [u8; 144], kind: u8, byte: u8, wait: u32, played: Played) -> Played {

@@ -9,7 +9,7 @@ use native.Mathlib.Numerals.{add-one}
 use borrow.Author.Tests.{ltb-true, ltb-false}
 use lib.Dec.{ltb}
 use lib.ListN.{length, set, take, drop, length-set}
-use lib.Seq.{sets, sets-eq, take-nil, take-append-seam}
+use lib.Seq.{sets, sets-eq, take-nil, take-all, take-append-seam}
 use Rattle.lines.specs.Text.{Put, put, putting}
 use Rattle.lines.proofs.Laws.Digits.{either}
 
@@ -69,3 +69,8 @@ put-cons p byte rest =
 -- a text written at the start is what stands there first
 pub first-written : (text out : List ℕ) → length text ≤ length out → take (length text) (sets out 0 text) ≡ text
 first-written text out fits = ap (take (length text)) (sets-onto text out fits) ∙ take-append-seam text (drop (length text) out)
+
+-- a text that fits is put whole
+pub put-whole : (at : ℕ) (out text : List ℕ) → at + length text ≤ length out → putting (put at out) text ≡ put (at + length text) (sets out at text)
+unfolding putting
+put-whole at out text fits = simp (take-all (length out - at) text (omega arith))

@@ -1,6 +1,6 @@
 -- Laws of a session: its text line by line, its rows one by one, how it leaves the bench, and what it starts from.
 -- Assumes nothing.
-use mathlib.Core.Bool.{true, false, false≢true}
+use mathlib.Core.Bool.{true, false}
 use mathlib.Core.List.{List, [], _∷_, _++_, append-assoc}
 use mathlib.Core.Path.{_≡_, refl, ap}
 use Prim.Native.Nat.{ℕ, zero, suc, _+_, _<_, _≤_}

@@ -3,12 +3,12 @@
 use mathlib.Core.Bool.{Bool, true, false, false≢true}
 use mathlib.Core.List.{List, [], _++_, append-assoc, append-nil}
 use mathlib.Core.Path.{_≡_, refl, sym, ap, _∙_}
-use Prim.Native.Nat.{ℕ, _+_, _-_, _*_, _^_, _<_, _≤_}
+use Prim.Native.Nat.{ℕ, _+_, _-_, _^_, _<_, _≤_}
 use native.Mathlib.Omega.{arith}
 use native.Mathlib.Nat.{add-zero}
 use borrow.Author.Tests.{le-ltb}
 use borrow.Rule.Slice.PartMut.{putMid, post-is}
-use lib.ListN.{length, take, drop, replicate, length-append, length-drop, drop-of-length-le}
+use lib.ListN.{length, take, drop, length-append, length-drop, drop-of-length-le}
 use lib.Seq.{sets, sets-eq, drop-drop, drop-length, take-all, length-sets}
 use Rattle.controller.specs.declared.answers.Answer.{Answer}
 use Rattle.controller.specs.declared.answers.Answer.the-variants.{Done}
@@ -17,18 +17,20 @@ use Rattle.controller.specs.declared.«record».Record.{Record}
 use Rattle.controller.specs.declared.sent.Sent.{Sent}
 use Rattle.controller.specs.Answers.{isDone, numberOf}
 use Rattle.controller.specs.Bus.{Performs}
+use Rattle.controller.proofs.Laws.Answers.{number-below}
 use Rattle.controller.specs.Runs.{State, decidedOf, after, toldOf}
 use Rattle.lines.specs.declared.reader.Line.{Line}
 use Rattle.lines.specs.declared.writer.Written.{Written}
 use Rattle.lines.specs.Reading.{lineOf}
 use Rattle.lines.specs.ReportText.{header, row, rowSize}
 use Rattle.lines.specs.Writing.{onto, writing, wanting, Writes}
+use Rattle.lines.proofs.Laws.Lengths.{row-fits}
 use Rattle.lines.proofs.Laws.Buffer.{sets-append, sets-next, sets-onto}
 use Rattle.player.specs.declared.walk.Ended.{Ended}
 use Rattle.player.specs.declared.walk.Place.{Place}
 use Rattle.player.specs.Session.{Session, endedBy, following, sentOf, sessionOf}
 use Rattle.player.specs.Report.{rowAt, rowsOf, start, report, reportSize}
-use Rattle.player.specs.Walk.{wanted, stateAt, Walked, endedAt, walked, walkedFrom, room, Fits, Tells, Went, Played}
+use Rattle.player.specs.Walk.{wanted, stateAt, Walked, endedAt, walked, walkedFrom, room, Fits, Tells, Played}
 use Rattle.player.proofs.Laws.Session.{line-long, session-none, session-more, session-bad, rows-none, rows-last, rows-more, leaving-last, leaving-more, header-length}
 use Rattle.player.proofs.Theorems.Fits.{report-fits}
 
@@ -57,13 +59,16 @@ put-back text out at fits =
 pub tells-nothing : {rows : Bool} {text : List ℕ} {at : ℕ} {out : List ℕ} → rows ≡ false → Tells rows text at out at out
 tells-nothing is = rw is (record { after = omega arith; small = omega arith; buffer = refl })
 
--- a row, written into the end of the buffer
-pub tells-row : {rows : Bool} {text out : List ℕ} {at : ℕ} {written : Written} {part : List ℕ} → rows ≡ true → length text ≤ rowSize → at + room rows 0 ≤ length out
-    → Writes (wanting rowSize text (take (length out - at) (drop at out))) (take (length out - at) (drop at out)) written part
-    → Tells rows text at out (at + written .length) (putMid at (length out - at) out part)
-tells-row {rows} {text} {out} {at} {written} {part} is small enough meets =
+-- a row, written into the end of the buffer: with a number of 64 bits and a busy time of 32 it has at most 42 bytes
+pub tells-row : {rows : Bool} {out : List ℕ} {at line busy n : ℕ} (answer : Answer) (byte : ℕ) {written : Written} {part : List ℕ}
+    → line < 2 ^ 64 → busy < 2 ^ 32 → rows ≡ true → n ≡ numberOf answer → at + room rows 0 ≤ length out
+    → Writes (wanting rowSize (row line n byte busy) (take (length out - at) (drop at out))) (take (length out - at) (drop at out)) written part
+    → Tells rows (row line (numberOf answer) byte busy) at out (at + written .length) (putMid at (length out - at) out part)
+tells-row {rows} {out} {at} {line} {busy} answer byte few short is is-number enough meets =
+    let text = row line (numberOf answer) byte busy in
+    let small = row-fits line (numberOf answer) byte busy (omega arith) (omega (arith, number-below answer)) (omega arith) in
     let place : at + 42 ≤ length out = rw is at enough in
-    let wrote = writes rowSize text (drop at out) (omega (arith, length-drop at out)) (rw (tail out at) at meets) in
+    let wrote = writes rowSize text (drop at out) (omega (arith, length-drop at out)) (rw (is-number, tail out at) at meets) in
     rw is
     (record {
       after = ap (λ (n : ℕ). at + n) (wrote .0);
@@ -71,7 +76,7 @@ tells-row {rows} {text} {out} {at} {written} {part} is small enough meets =
       buffer = ap (putMid at (length out - at) out) (wrote .1) ∙ put-back text out at (omega arith);
     })
 
--- nothing of nothing, and of two texts one after the other
+-- what is wanted of no text, and of one text after another
 wanted-none : (rows : Bool) → wanted rows [] ≡ []
 wanted-none true = refl
 wanted-none false = refl

@@ -9,7 +9,7 @@ use native.Mathlib.Omega.{arith}
 use lib.ListN.{length, drop, length-append, length-drop}
 use lib.Seq.{drop-append-seam}
 use Rattle.controller.specs.declared.answers.Answer.the-variants.{Done, BadLine}
-use Rattle.controller.specs.Answers.{isDone, numberOf}
+use Rattle.controller.specs.Answers.{isDone}
 use Rattle.controller.specs.declared.sent.Sent.{Sent}
 use Rattle.lines.specs.declared.reader.Line.{Line}
 use Rattle.lines.specs.Line.{line, linesOf}

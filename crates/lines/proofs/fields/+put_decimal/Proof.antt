@@ -30,52 +30,26 @@ abbrev put-decimal-below : ℕ → In 1 put-decimal-kinds.ps
 put-decimal-below t =
     and 1 put-decimal-kinds.ps (falls 1 put-decimal-kinds.ps _<_ μ-put-decimal t) put-decimal.Pre
 
-put-decimal-cast-hex-digit : (t : ℕ) → put-decimal-lts.Need-cast-hex-digit (
-  hex-digit-reads.Asked,
-  hex-digit-reads.Learnt,
-  put-decimal-below t,
-  put-decimal.Post,
-) (put-decimal-at t) put-decimal.Post
+-- what is known of the calls: the digit's contract, and its own for a smaller number
+abbrev claims : ℕ → put-decimal-lts.Claims
+claims t = (hex-digit-reads.Asked, hex-digit-reads.Learnt, put-decimal-below t, put-decimal.Post)
+
+put-decimal-cast-hex-digit : (t : ℕ) → put-decimal-lts.Need-cast-hex-digit (claims t) (put-decimal-at t) put-decimal.Post
 put-decimal-cast-hex-digit t c = search needs
 
-put-decimal-hex-digit-requires : (t : ℕ) → put-decimal-lts.Need-hex-digit-requires (
-  hex-digit-reads.Asked,
-  hex-digit-reads.Learnt,
-  put-decimal-below t,
-  put-decimal.Post,
-) (put-decimal-at t) put-decimal.Post
+put-decimal-hex-digit-requires : (t : ℕ) → put-decimal-lts.Need-hex-digit-requires (claims t) (put-decimal-at t) put-decimal.Post
 put-decimal-hex-digit-requires t c κs = omega arith
 
-put-decimal-slice-write-out : (t : ℕ) → put-decimal-lts.Need-slice-write-out (
-  hex-digit-reads.Asked,
-  hex-digit-reads.Learnt,
-  put-decimal-below t,
-  put-decimal.Post,
-) (put-decimal-at t) put-decimal.Post
+put-decimal-slice-write-out : (t : ℕ) → put-decimal-lts.Need-slice-write-out (claims t) (put-decimal-at t) put-decimal.Post
 put-decimal-slice-write-out t c = omega (arith, length-small (c .before .before .before .args .number) (c .before .if1 .taken))
 
-put-decimal-add-result : (t : ℕ) → put-decimal-lts.Need-add-result (
-  hex-digit-reads.Asked,
-  hex-digit-reads.Learnt,
-  put-decimal-below t,
-  put-decimal.Post,
-) (put-decimal-at t) put-decimal.Post
+put-decimal-add-result : (t : ℕ) → put-decimal-lts.Need-add-result (claims t) (put-decimal-at t) put-decimal.Post
 put-decimal-add-result t c = search needs
 
-put-decimal-same-length : (t : ℕ) → put-decimal-lts.Need-same-length (
-  hex-digit-reads.Asked,
-  hex-digit-reads.Learnt,
-  put-decimal-below t,
-  put-decimal.Post,
-) (put-decimal-at t) put-decimal.Post
+put-decimal-same-length : (t : ℕ) → put-decimal-lts.Need-same-length (claims t) (put-decimal-at t) put-decimal.Post
 put-decimal-same-length t c = search needs
 
-put-decimal-returns : (t : ℕ) → put-decimal-lts.Need-returns (
-  hex-digit-reads.Asked,
-  hex-digit-reads.Learnt,
-  put-decimal-below t,
-  put-decimal.Post,
-) (put-decimal-at t) put-decimal.Post
+put-decimal-returns : (t : ℕ) → put-decimal-lts.Need-returns (claims t) (put-decimal-at t) put-decimal.Post
 put-decimal-returns t c =
     let start = c .before .before .before in
     let small = c .before .if1 .taken in (
@@ -84,69 +58,34 @@ put-decimal-returns t c =
           ∙ ap (sets (start .args .out .now) (start .args .at)) (sym (decimal-small (start .args .number) small)),
     )
 
-put-decimal-put-decimal-requires : (t : ℕ) → put-decimal-lts.Need-put-decimal-requires (
-  hex-digit-reads.Asked,
-  hex-digit-reads.Learnt,
-  put-decimal-below t,
-  put-decimal.Post,
-) (put-decimal-at t) put-decimal.Post
+put-decimal-put-decimal-requires : (t : ℕ) → put-decimal-lts.Need-put-decimal-requires (claims t) (put-decimal-at t) put-decimal.Post
 put-decimal-put-decimal-requires t c κs =
     let start = c .before .before .before in
     let large = c .before .if1 .left in
     (omega arith, omega (arith, length-split (start .args .number) large))
 
-put-decimal-cast-hex-digit-2 : (t : ℕ) → put-decimal-lts.Need-cast-hex-digit-2 (
-  hex-digit-reads.Asked,
-  hex-digit-reads.Learnt,
-  put-decimal-below t,
-  put-decimal.Post,
-) (put-decimal-at t) put-decimal.Post
+put-decimal-cast-hex-digit-2 : (t : ℕ) → put-decimal-lts.Need-cast-hex-digit-2 (claims t) (put-decimal-at t) put-decimal.Post
 put-decimal-cast-hex-digit-2 t c = search needs
 
-put-decimal-hex-digit-requires-2 : (t : ℕ) → put-decimal-lts.Need-hex-digit-requires-2 (
-  hex-digit-reads.Asked,
-  hex-digit-reads.Learnt,
-  put-decimal-below t,
-  put-decimal.Post,
-) (put-decimal-at t) put-decimal.Post
+put-decimal-hex-digit-requires-2 : (t : ℕ) → put-decimal-lts.Need-hex-digit-requires-2 (claims t) (put-decimal-at t) put-decimal.Post
 put-decimal-hex-digit-requires-2 t c κs = omega arith
 
-put-decimal-slice-write-out-2 : (t : ℕ) → put-decimal-lts.Need-slice-write-out-2 (
-  hex-digit-reads.Asked,
-  hex-digit-reads.Learnt,
-  put-decimal-below t,
-  put-decimal.Post,
-) (put-decimal-at t) put-decimal.Post
+put-decimal-slice-write-out-2 : (t : ℕ) → put-decimal-lts.Need-slice-write-out-2 (claims t) (put-decimal-at t) put-decimal.Post
 put-decimal-slice-write-out-2 t c =
     let start = c .before .before .before .before .before .before .before in
     let call = c .before .before .before in
     omega (arith, call .put-decimal .ensures .0, call .put-decimal .kept .1 .0, length-split (start .args .number) (call .before .before .if1 .left))
 
-put-decimal-add-result-2 : (t : ℕ) → put-decimal-lts.Need-add-result-2 (
-  hex-digit-reads.Asked,
-  hex-digit-reads.Learnt,
-  put-decimal-below t,
-  put-decimal.Post,
-) (put-decimal-at t) put-decimal.Post
+put-decimal-add-result-2 : (t : ℕ) → put-decimal-lts.Need-add-result-2 (claims t) (put-decimal-at t) put-decimal.Post
 put-decimal-add-result-2 t c =
     let start = c .before .before .before .before .before .before .before in
     let call = c .before .before .before in
     omega (arith, call .put-decimal .ensures .0, call .put-decimal .kept .1 .0, length-split (start .args .number) (call .before .before .if1 .left))
 
-put-decimal-same-length-2 : (t : ℕ) → put-decimal-lts.Need-same-length-2 (
-  hex-digit-reads.Asked,
-  hex-digit-reads.Learnt,
-  put-decimal-below t,
-  put-decimal.Post,
-) (put-decimal-at t) put-decimal.Post
+put-decimal-same-length-2 : (t : ℕ) → put-decimal-lts.Need-same-length-2 (claims t) (put-decimal-at t) put-decimal.Post
 put-decimal-same-length-2 t c = search needs
 
-put-decimal-returns-2 : (t : ℕ) → put-decimal-lts.Need-returns-2 (
-  hex-digit-reads.Asked,
-  hex-digit-reads.Learnt,
-  put-decimal-below t,
-  put-decimal.Post,
-) (put-decimal-at t) put-decimal.Post
+put-decimal-returns-2 : (t : ℕ) → put-decimal-lts.Need-returns-2 (claims t) (put-decimal-at t) put-decimal.Post
 put-decimal-returns-2 t c =
     let start = c .before .before .before .before .before .before .before in
     let call = c .before .before .before in
@@ -158,14 +97,7 @@ put-decimal-returns-2 t c =
     )
 
 pub +put-decimal-spec : {M : Type 1} → statement M
-+put-decimal-spec = close μ-put-decimal λ t. put-decimal-lts.spec (
-  hex-digit-reads.Asked,
-  hex-digit-reads.Learnt,
-  put-decimal-below t,
-  put-decimal.Post,
-)
-    (put-decimal-at t)
-    put-decimal.Post
++put-decimal-spec = close μ-put-decimal λ t. put-decimal-lts.spec (claims t) (put-decimal-at t) put-decimal.Post
     (put-decimal-cast-hex-digit t)
     (put-decimal-hex-digit-requires t)
     (put-decimal-slice-write-out t)

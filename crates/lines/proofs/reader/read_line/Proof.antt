@@ -55,7 +55,6 @@ mul-line-from c =
     let byte = high .before .before .before .before in
     let digits = stands-digits _ (sym (byte .before .byte-stands .ensures) ∙ not-false _ (byte .if2 .left)) in
     let above : high .worth-of .result < 16 = rw (high .worth-of .ensures, high .before .text-at2 .ensures) (digits .0) in
-    let below : c .worth-of2 .result < 16 = rw (c .worth-of2 .ensures, c .before .text-at3 .ensures) (digits .1) in
     omega arith
 
 add-line-from : tie.Need-add-line-from

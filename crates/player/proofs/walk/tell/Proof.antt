@@ -1,13 +1,8 @@
 -- `player::walk::tell` meets its contract: without rows nothing is written; with them the row is, which fits since its
 -- number, its answer and its busy time are machine numbers. Assumes nothing.
-use mathlib.Core.Path.{_∙_}
-use Prim.Native.Nat.{_<_, _^_}
 use native.Mathlib.Omega.{arith}
 use borrow.Author.Needs.{needs}
 use borrow.Author.Tests.{not-true, not-false}
-use Rattle.controller.specs.Answers.{numberOf}
-use Rattle.controller.proofs.Laws.Answers.{number-below}
-use Rattle.lines.proofs.Laws.Lengths.{row-fits}
 use Rattle.player.proofs.Laws.Walk.{tells-nothing, tells-row}
 use Rattle.player.proofs.walk.tell.Statement.{statement}
 use Rattle.player.proofs.walk.tell.Tie as tie
@@ -34,10 +29,9 @@ add-result : tie.Need-add-result
 add-result c =
     let write = c .before .before .before in
     let begin = write .before .before .before .before .before in
-    let a = begin .args in
-    let small = row-fits (a .line) (numberOf (a .answer)) (a .byte) (a .busy) (omega arith) (omega (arith, number-below (a .answer))) (omega arith) in
     let told =
-    tells-row {rows = a .rows} {out = a .out .now} (not-false _ (write .before .before .before .if1 .left)) small (begin .pre) (rw (write .before .before .number .ensures) at (write .write-row .ensures)) in
+    tells-row {rows = begin .args .rows} {out = begin .args .out .now} (begin .args .answer) (begin .args .byte) (omega arith) (omega arith)
+    (not-false _ (write .before .before .before .if1 .left)) (write .before .before .number .ensures) (begin .pre) (write .write-row .ensures) in
     omega (arith, told .small, begin .pre)
 
 same-length : tie.Need-same-length
@@ -47,9 +41,8 @@ returns-2 : tie.Need-returns-2
 returns-2 c =
     let write = c .before .before .before in
     let begin = write .before .before .before .before .before in
-    let a = begin .args in
-    let small = row-fits (a .line) (numberOf (a .answer)) (a .byte) (a .busy) (omega arith) (omega (arith, number-below (a .answer))) (omega arith) in
-    tells-row (not-false _ (write .before .before .before .if1 .left)) small (begin .pre) (rw (write .before .before .number .ensures) at (write .write-row .ensures))
+    tells-row (begin .args .answer) (begin .args .byte) (omega arith) (omega arith)
+    (not-false _ (write .before .before .before .if1 .left)) (write .before .before .number .ensures) (begin .pre) (write .write-row .ensures)
 
 pub tell-spec : {M : Type 1} → statement M
 tell-spec =

@@ -1,20 +1,20 @@
--- `cuts::cells::wished_bytes` is safe and ends: the measure is the cells that are left.
+-- `cuts::cells::cell_bytes` is safe and ends: the measure is the cells that are left.
 use Prim.Native.Nat.{_-_, _≤_}
 use borrow.Author.Needs.{needs}
-use Rattle.cuts.proofs.cells.wished_bytes.Statement.{statement}
-use Rattle.cuts.proofs.cells.wished_bytes.Tie as tie
+use Rattle.cuts.proofs.cells.cell_bytes.Statement.{statement}
+use Rattle.cuts.proofs.cells.cell_bytes.Tie as tie
 
 abbrev Inv-loop : tie.InvT-loop
-Inv-loop bytes₀ place₀ bytes place = place ≤ 144
+Inv-loop wished bytes₀ place₀ bytes place = place ≤ 144
 
 abbrev μ-loop : tie.MeasureT-loop
-μ-loop bytes₀ place₀ bytes place = 144 - place
+μ-loop wished bytes₀ place₀ bytes place = 144 - place
 
 loop-holds : tie.Need-loop-holds Inv-loop μ-loop
 loop-holds c = search needs
 
-wished-byte-requires : tie.Need-wished-byte-requires Inv-loop μ-loop
-wished-byte-requires c κs = search needs
+byte-at-requires : tie.Need-byte-at-requires Inv-loop μ-loop
+byte-at-requires c κs = search needs
 
 array-write-bytes : tie.Need-array-write-bytes Inv-loop μ-loop
 array-write-bytes c = search needs
@@ -31,14 +31,14 @@ loop-again c = search needs
 returns : tie.Need-returns Inv-loop μ-loop
 returns c = search needs
 
-pub wished-bytes-spec : {M : Type 1} → statement M
-wished-bytes-spec =
+pub cell-bytes-spec : {M : Type 1} → statement M
+cell-bytes-spec =
     tie.close
     (tie.spec
     Inv-loop
     μ-loop
     loop-holds
-    wished-byte-requires
+    byte-at-requires
     array-write-bytes
     add-place
     loop-less
