@@ -16,21 +16,21 @@ pub fn wished_byte(place: usize) -> u8
     ((place * 31 + 4) % 256) as u8
 }
 
-pub fn first_bytes() -> [u8; 144] {
-    let mut bytes = [0u8; 144];
-    let mut place = 0;
-    while place < 144 {
-        bytes[place] = first_byte(place);
-        place += 1;
+fn byte_at(place: usize, wished: bool) -> u8
+    requires { ⌜ place < 144 ⌝ }
+{
+    if wished {
+        return wished_byte(place);
     }
-    bytes
+    first_byte(place)
 }
 
-pub fn wished_bytes() -> [u8; 144] {
+// The bytes of all cells: those that a wish has, or those at first.
+pub fn cell_bytes(wished: bool) -> [u8; 144] {
     let mut bytes = [0u8; 144];
     let mut place = 0;
     while place < 144 {
-        bytes[place] = wished_byte(place);
+        bytes[place] = byte_at(place, wished);
         place += 1;
     }
     bytes

@@ -12,6 +12,7 @@ mod verdict;
 mod wishes;
 
 use libc::STDOUT_FILENO;
+use lines::first;
 use report::put_total;
 use report::put_wish;
 use report::put_wrong;
@@ -125,16 +126,8 @@ fn play_wishes(out: &mut [u8; 2048], tally: Tally) -> Tally {
     next
 }
 
-// The first bytes of the buffer, as many as this.
-fn write_first(out: &[u8], length: usize) {
-    if out.len() < length {
-        return;
-    }
-    io::write_all(STDOUT_FILENO, &out[..length]);
-}
-
 fn print(out: &[u8; 2048], length: usize) {
-    write_first(out, length);
+    io::write_all(STDOUT_FILENO, first(out, length));
 }
 
 fn main() {

@@ -2,33 +2,12 @@
 use crate::runs::Run;
 use crate::tally::Tally;
 use crate::verdict::Fault;
-
-fn put_byte(out: &mut [u8; 2048], at: usize, byte: u8) -> usize {
-    if 2048 <= at {
-        return at;
-    }
-    out[at] = byte;
-    at + 1
-}
-
-fn put_text(out: &mut [u8; 2048], at: usize, text: &[u8]) -> usize {
-    let mut next = at;
-    let mut i = 0;
-    while i < text.len() {
-        next = put_byte(out, next, text[i]);
-        i += 1;
-    }
-    next
-}
-
-fn put_number(out: &mut [u8; 2048], at: usize, n: u64) -> usize {
-    let mut digits = [0u8; 20];
-    let length = io::decimal(n, &mut digits);
-    put_text(out, at, &digits[..length])
-}
+use lines::put_byte;
+use lines::put_number;
+use lines::put_text;
 
 // A name and the number that follows it.
-fn put_count(out: &mut [u8; 2048], at: usize, name: &[u8], n: u64) -> usize {
+fn put_count(out: &mut [u8], at: usize, name: &[u8], n: u64) -> usize {
     let named = put_text(out, at, name);
     put_number(out, named, n)
 }
@@ -41,7 +20,7 @@ fn move_to(tally: Tally, at: usize) -> Tally {
 }
 
 // What was wrong.
-fn put_fault(out: &mut [u8; 2048], at: usize, fault: Fault) -> usize {
+fn put_fault(out: &mut [u8], at: usize, fault: Fault) -> usize {
     match fault {
         Fault::Nothing => at,
         Fault::Refused => put_text(out, at, b"refused as busy"),
@@ -60,7 +39,7 @@ fn put_fault(out: &mut [u8; 2048], at: usize, fault: Fault) -> usize {
 }
 
 // The line of a wrong run.
-fn put_run(out: &mut [u8; 2048], at: usize, run: Run, fault: Fault) -> usize {
+fn put_run(out: &mut [u8], at: usize, run: Run, fault: Fault) -> usize {
     let wish = put_count(out, at, b"wrong: wish ", run.wish as u64);
     let start = put_count(out, wish, b"  start ", run.start as u64);
     let first = put_count(out, start, b"  cut ", run.first as u64);

@@ -1,15 +1,15 @@
 // Sends plans to the controller, cut and whole.
 ghost use Prim.Native.Nat.{_<_, _≤_};
-use crate::cells::first_bytes;
-use crate::cells::wished_bytes;
+use crate::cells::cell_bytes;
 use crate::starts::excepted;
 use crate::starts::start_of;
+use crate::verdict::Played;
 use crate::verdict::Verdict;
 use crate::verdict::judge;
 use crate::wishes::marks_of;
 use crate::wishes::wish_of;
-use controller::Record;
-use controller::number;
+use controller::Answer;
+use controller::number_from;
 use controller::transfer;
 
 // One run: the wish and the start by their numbers, how many transfers are sent before the first cut, and how many of
@@ -19,13 +19,6 @@ pub struct Run {
     pub start: u8,
     pub first: usize,
     pub second: usize,
-}
-
-// The controller on the way: its record, the transfers sent so far, and whether one of them was refused as busy.
-pub struct Played {
-    pub rec: Record,
-    pub sent: u64,
-    pub refused: bool,
 }
 
 // No plan has more than 468 records. A longer one would not be played at all, so that every run of it is wrong.
@@ -43,14 +36,18 @@ pub fn lay_out(wish: u8, plan: &mut [u8; 2808]) -> usize
     ensures { λ r. ⌜ r ≤ 468 ⌝ }
 {
     let marks = marks_of(wish);
-    let values = wished_bytes();
+    let values = cell_bytes(true);
     let planned = planner::plan(wish_of(wish), &marks, &values, plan);
     limit(planned.count)
 }
 
-// The wait of a record, from its four bytes.
-fn little_endian(a: u8, b: u8, c: u8, d: u8) -> u32 {
-    a as u32 + b as u32 * 256 + c as u32 * 65_536 + d as u32 * 16_777_216
+// Document 01, "What each number says": 4, busy.
+fn is_busy(answer: Answer) -> bool {
+    if let Answer::Busy = answer {
+        true
+    } else {
+        false
+    }
 }
 
 // One record of the plan, sent exactly as planned.
@@ -58,7 +55,7 @@ fn send(plan: &[u8; 2808], at: usize, memory: &mut [u8; 144], played: Played) ->
     requires { ⌜ at < 468 ⌝ }
 {
     let from = at * 6;
-    let wait = little_endian(
+    let wait = number_from(
         plan[from + 2],
         plan[from + 3],
         plan[from + 4],
@@ -71,7 +68,7 @@ fn send(plan: &[u8; 2808], at: usize, memory: &mut [u8; 144], played: Played) ->
     Played {
         rec: next,
         sent: std::num::wrapping_add_u64(played.sent, 1),
-        refused: played.refused || number(answer) == 4,
+        refused: played.refused || is_busy(answer),
     }
 }
 
@@ -92,7 +89,7 @@ fn play(plan: &[u8; 2808], count: usize, memory: &mut [u8; 144], played: Played)
 pub fn play_run(plan: &[u8; 2808], count: usize, run: Run) -> Verdict
     requires { ⌜ (count ≤ 468) × (run .first ≤ 468) × (run .second ≤ 468) ⌝ }
 {
-    let mut memory = first_bytes();
+    let mut memory = cell_bytes(false);
     let start = start_of(run.start);
     let begun = Played {
         rec: start,

@@ -1,52 +1,31 @@
 // The records from which the plans are played: both widths, each kind of half, busy at its limits, S=1.
-use controller::Control;
 use controller::Counter;
-use controller::Entry;
-use controller::Function;
 use controller::Half;
 use controller::Record;
+use controller::after_reset;
 
 // How many starting records there are.
 pub const STARTS: u8 = 14;
 
-// As reset leaves it.
-fn after_reset() -> Record {
-    Record {
-        wide: true,
-        function: Function { n: false, f: false },
-        control: Control {
-            d: false,
-            c: false,
-            b: false,
-        },
-        entry: Entry { id: true, s: false },
-        shift: 0,
-        counter: Counter::Display(0),
-        reg: 0,
-        fresh: false,
-        busy: 10_000,
-        half: Half::Empty,
-    }
-}
-
 // A record with all that a plan has to undo: S=1, which shifts the display at each data write, I/D=0, the display on,
 // and the last shift.
 fn unruly(wide: bool, counter: Counter, fresh: bool, busy: u32, half: Half) -> Record {
+    let mut rec = after_reset();
+    rec.wide = wide;
+    rec.function.f = true;
+    rec.control.d = true;
+    rec.control.c = true;
+    rec.control.b = true;
+    rec.entry.id = false;
+    rec.entry.s = true;
+    rec.shift = 79;
+    rec.reg = 0xA5;
+    rec.fresh = fresh;
+    rec.busy = busy;
     Record {
-        wide,
-        function: Function { n: false, f: true },
-        control: Control {
-            d: true,
-            c: true,
-            b: true,
-        },
-        entry: Entry { id: false, s: true },
-        shift: 79,
         counter,
-        reg: 0xA5,
-        fresh,
-        busy,
         half,
+        ..rec
     }
 }
 

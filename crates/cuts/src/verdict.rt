@@ -3,7 +3,6 @@
 ghost use Prim.Native.Nat.{_<_};
 use crate::cells::first_byte;
 use crate::cells::wished_byte;
-use crate::runs::Played;
 use crate::wishes::is_marked;
 use crate::wishes::wish_of;
 use controller::Control;
@@ -12,7 +11,15 @@ use controller::Entry;
 use controller::Function;
 use controller::Half;
 use controller::Record;
+use controller::short_time;
 use planner::Wish;
+
+// The controller on the way: its record, the transfers sent so far, and whether one of them was refused as busy.
+pub struct Played {
+    pub rec: Record,
+    pub sent: u64,
+    pub refused: bool,
+}
 
 // The first thing that is not as demand 3 says, if there is one.
 pub enum Fault {
@@ -104,7 +111,7 @@ fn place_fault(rec: Record, wish: Wish) -> Fault {
     Fault::Nothing
 }
 
-// Width 4 with no half waiting, and busy with an instruction that takes 40.
+// Width 4 with no half waiting, and busy with an instruction that takes the short time.
 fn bus_fault(rec: Record) -> Fault {
     let half = rec.half;
     if rec.wide {
@@ -113,7 +120,7 @@ fn bus_fault(rec: Record) -> Fault {
     if !is_empty(half) {
         return Fault::Waiting;
     }
-    if rec.busy != 40 {
+    if rec.busy != short_time() {
         return Fault::Busy;
     }
     Fault::Nothing

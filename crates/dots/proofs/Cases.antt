@@ -16,26 +16,27 @@ use Rattle.controller.specs.Cases.{Waits}
 use Rattle.controller.specs.Execute.{shifted, changed, completed, executed}
 use Rattle.controller.specs.Halves.{begun}
 use Rattle.controller.specs.Instruction.{decoded, bit}
-use Rattle.controller.specs.Record.{waited}
+use Rattle.controller.specs.Record.{busyOver}
 use Rattle.controller.specs.declared.decision.Decision.{Decision}
 use Rattle.controller.specs.declared.«record».Half.the-variants.{Empty}
 use Rattle.controller.specs.Cells.{addOfCell, lineLength, wrapped}
 use Rattle.dots.specs.declared.geometry.Shown.{Shown}
 use Rattle.dots.specs.declared.geometry.Shown.the-variants.{Cell, Undriven}
+use Rattle.dots.specs.declared.geometry.Size.{Size}
 use Rattle.dots.specs.Cases.{LinesStart, P5, P7}
 use Rattle.dots.specs.Font.{font}
 use Rattle.dots.specs.Geometry.{cellIn, drivenLines}
-use Rattle.dots.specs.Picture.{answered, pictureByte, cellRow, covered, dotsAt, output, patternRow, rowOf, shownRow}
+use Rattle.dots.specs.Picture.{answerFor, pictureByte, cellRow, covered, dotsAt, output, patternRow, rowOf, shownRow}
 
 -- what 18h and 1Ch do
 shift-taken : (rec : Record) (mem : List ℕ) (wait : ℕ) (left : Bool) → Waits rec mem true Empty wait
-    → decided rec mem 0 (cond left 0x18 0x1C) wait ≡ changed (shifted left (waited wait rec))
+    → decided rec mem 0 (cond left 0x18 0x1C) wait ≡ changed (shifted left (busyOver rec))
 unfolding badTransfer begun completed executed decoded bit
 shift-taken rec mem wait true w = taken-wide rec mem Empty 0 0x18 wait w refl
 shift-taken rec mem wait false w = taken-wide rec mem Empty 0 0x1C wait w refl
 
 pub p5 : P5
-unfolding cellIn drivenLines lineLength wrapped addOfCell
+unfolding cellIn wrapped addOfCell
 p5 rec mem wait w n s = (
   subst (λ (d : Decision). LinesStart (d .rec) 0x01 0x41) (sym (shift-taken rec mem wait true w)) (rw (n, s) (refl, refl)),
   subst (λ (d : Decision). LinesStart (d .rec) 0x27 0x67) (sym (shift-taken rec mem wait false w)) (rw (n, s) (refl, refl)),
@@ -43,12 +44,12 @@ p5 rec mem wait w n s = (
 
 -- With 08h for 00h in a display cell: no pattern changes, and no cell shows another row.
 rows-08 : (shapes mem : List ℕ) (row : ℕ) → rowOf shapes mem 0x00 row ≡ rowOf shapes mem 0x08 row
-unfolding rowOf patternRow
+unfolding rowOf
 rows-08 shapes mem row = refl
 
 module _ (mem : List ℕ) (cell : ℕ) (display : cell < 80) (within : cell < length mem) (holds : getD mem cell 0 ≡ 0x00) where
   code-08 : (shapes : List ℕ) (code row : ℕ) → rowOf shapes (set mem cell 0x08) code row ≡ rowOf shapes mem code row
-  unfolding rowOf patternRow
+  unfolding rowOf
   code-08 shapes code row =
       rw (getD-set-other mem cell (80 + code % 8 * 8 + row) 0x08 0 (λ e. omega arith)) refl
 
@@ -64,17 +65,17 @@ module _ (mem : List ℕ) (cell : ℕ) (display : cell < 80) (within : cell < le
   shown-08 shapes rec lit row (Cell at) = ap (λ (k : ℕ). cond (covered rec lit row at) 0b11111 k) (cell-08 shapes at row)
   shown-08 shapes rec lit row Undriven = refl
 
-  byte-08 : (rec : Record) (lit : Bool) (columns at : ℕ) → pictureByte font rec (set mem cell 0x08) lit columns at ≡ pictureByte font rec mem lit columns at
+  byte-08 : (rec : Record) (lit : Bool) (size : Size) (at : ℕ) → pictureByte font rec (set mem cell 0x08) lit size at ≡ pictureByte font rec mem lit size at
   unfolding pictureByte dotsAt
-  byte-08 rec lit columns at = rw (shown-08 font rec lit) refl
+  byte-08 rec lit size at = rw (shown-08 font rec lit) refl
 
-  output-08 : (rec : Record) (columns lines : ℕ) (lit : Bool) (out : List ℕ) → output rec (set mem cell 0x08) columns lines lit out ≡ output rec mem columns lines lit out
-  unfolding output answered whole
-  output-08 rec columns lines lit out = rw (length-set, fun-ext (byte-08 rec lit columns)) refl
+  output-08 : (rec : Record) (size : Size) (lit : Bool) (out : List ℕ) → output rec (set mem cell 0x08) size lit out ≡ output rec mem size lit out
+  unfolding output answerFor whole
+  output-08 rec size lit out = rw (length-set, fun-ext (byte-08 rec lit size)) refl
 
 pub p7 : P7
-p7 = (rows-08, λ rec mem columns lines lit out cell display holds. go rec mem columns lines lit out cell display holds (ltb cell (length mem)) refl)
+p7 = (rows-08, λ rec mem size lit out cell display holds. go rec mem size lit out cell display holds (ltb cell (length mem)) refl)
   where
-    go : (rec : Record) (mem : List ℕ) (columns lines : ℕ) (lit : Bool) (out : List ℕ) (cell : ℕ) → cell < 80 → getD mem cell 0 ≡ 0x00 → (b : Bool) → ltb cell (length mem) ≡ b → output rec (set mem cell 0x08) columns lines lit out ≡ output rec mem columns lines lit out
-    go rec mem columns lines lit out cell display holds true e = output-08 mem cell display (ltb-true _ _ e) holds rec columns lines lit out
-    go rec mem columns lines lit out cell display holds false e = rw (set-out mem cell 0x08 (ltb-false _ _ e)) refl
+    go : (rec : Record) (mem : List ℕ) (size : Size) (lit : Bool) (out : List ℕ) (cell : ℕ) → cell < 80 → getD mem cell 0 ≡ 0x00 → (b : Bool) → ltb cell (length mem) ≡ b → output rec (set mem cell 0x08) size lit out ≡ output rec mem size lit out
+    go rec mem size lit out cell display holds true e = output-08 mem cell display (ltb-true _ _ e) holds rec size lit out
+    go rec mem size lit out cell display holds false e = rw (set-out mem cell 0x08 (ltb-false _ _ e)) refl

@@ -12,7 +12,8 @@ use Rattle.controller.specs.declared.«record».Function.{Function}
 use Rattle.controller.specs.declared.«record».Record.{Record}
 use Rattle.controller.specs.Cells.{lineLength}
 use Rattle.dots.specs.declared.geometry.Shown.the-variants.{Cell, Undriven}
-use Rattle.dots.specs.Geometry.{ShownWithin, cellAt, cellIn, drivenLines, height}
+use Rattle.dots.specs.declared.geometry.Size.{Size}
+use Rattle.dots.specs.Geometry.{ShownWithin, cellAt, cellIn, height, tallest}
 use Rattle.dots.specs.Picture.{pictureByte, dotsAt}
 
 -- In a grid of rows of this width, place row * width + column stands in that row and that column.
@@ -32,7 +33,7 @@ pub height-some : (function : Function) → 0 < height function
 unfolding height
 height-some function = omega arith
 
-pub height-most : (function : Function) → height function ≤ 8
+pub height-most : (function : Function) → height function ≤ tallest
 unfolding height
 height-most function = omega arith
 
@@ -46,11 +47,12 @@ in-within driven length shift line position some few = go (ltb line driven) refl
     go false e = tt
 
 pub cell-within : (n : Bool) (shift line position : ℕ) → ShownWithin (cellAt n shift line position)
-unfolding drivenLines lineLength
 cell-within true shift line position = in-within 2 40 shift line position (omega arith) (omega arith)
 cell-within false shift line position = in-within 1 80 shift line position (omega arith) (omega arith)
 
 -- The dots at a column of row `at` of the glass, counted from its top, are the byte at that place of the output.
-pub dots-are-byte : (shapes : List ℕ) (rec : Record) (mem : List ℕ) (lit : Bool) (columns at column rows : ℕ) → rows ≡ height (rec .function) → column < columns → dotsAt shapes rec mem lit (at / rows) (at % rows) column ≡ pictureByte shapes rec mem lit columns (at * columns + column)
+pub dots-are-byte : (shapes : List ℕ) (rec : Record) (mem : List ℕ) (lit : Bool) (size : Size) (at column rows : ℕ) → rows ≡ height (rec .function) → column < size .columns
+    → dotsAt shapes rec mem lit (at / rows) (at % rows) column ≡ pictureByte shapes rec mem lit size (at * size .columns + column)
 unfolding pictureByte
-dots-are-byte shapes rec mem lit columns at column rows e h = rw (row-of-place columns at column h, column-of-place columns at column h, e) refl
+dots-are-byte shapes rec mem lit size at column rows e h =
+    rw (row-of-place (size .columns) at column h, column-of-place (size .columns) at column h, e) refl

@@ -10,7 +10,7 @@ use borrow.Author.Tests.{eqb-true, eqb-false, eq-eqb, le-leb, le-ltb, lt-leb, lt
 use lib.Dec.{ltb, leb, eqb, lit<}
 use lib.ListN.{length, getD, take, drop, List·getD-eq-default, length-take, length-drop}
 use lib.Seq.{drop-drop, ext-getD, getD-drop, getD-take}
-use Rattle.dots.specs.Font.{font, tableRow}
+use Rattle.dots.specs.Font.{font, shapeRows, tableLength, tableRow}
 use Rattle.dots.specs.Theorems.{Alike, Blank, TableRows, TableShapes}
 use Rattle.controller.proofs.Laws.Choice.{and-left, and-right}
 use Rattle.dots.proofs.Logic.{or-right}
@@ -30,9 +30,9 @@ passed test place (x ∷ xs) all (suc k) h =
 
 -- A row of the table: below 32; zero where it is an eighth row; zero before 20h, in 20h and after 7Dh.
 rightRow : ℕ → ℕ → Bool
-rightRow place row = ltb row 32 && ((not (eqb (place % 8) 7) || eqb row 0) && ((leb 0x108 place && ltb place 0x3F0) || eqb row 0))
+rightRow place row = ltb row 32 && ((not (eqb (place % shapeRows + 1) shapeRows) || eqb row 0) && ((leb 0x108 place && ltb place 0x3F0) || eqb row 0))
 
-pub font-length : length font ≡ 2048
+pub font-length : length font ≡ tableLength
 unfolding font
 font-length = refl
 
@@ -40,7 +40,7 @@ every-row-right : everywhere rightRow 0 font ≡ true
 unfolding everywhere rightRow font
 every-row-right = refl
 
-row-right : (place : ℕ) → place < 2048 → rightRow place (getD font place 0) ≡ true
+row-right : (place : ℕ) → place < tableLength → rightRow place (getD font place 0) ≡ true
 row-right place h = rw zero-add at (passed rightRow 0 font every-row-right place (rw font-length h))
 
 pub table-rows : TableRows
@@ -48,46 +48,44 @@ unfolding rightRow
 table-rows place h =
     let right = row-right place h in (
       ltb-true _ 32 (and-left _ _ right),
-      λ e. eqb-true _ 0 (or-right (not (eqb (place % 8) 7)) _ (and-left _ _ (and-right (ltb (getD font place 0) 32) _ right)) (simp (eq-eqb _ _ e))),
+      λ e. eqb-true _ 0 (or-right (not (eqb (place % shapeRows + 1) shapeRows)) _ (and-left _ _ (and-right (ltb (getD font place 0) 32) _ right)) (simp (eq-eqb _ _ e))),
     )
 
 -- Past the end of the table a row reads 0.
-row-past : (place : ℕ) → 2048 ≤ place → getD font place 0 ≡ 0
+row-past : (place : ℕ) → tableLength ≤ place → getD font place 0 ≡ 0
 row-past place h =
     let end : length font ≤ place = rw font-length h in
     List·getD-eq-default font 0 end
 
 -- Every row of the table is below 32, and so is what is read past its end.
 pub row-below : (place : ℕ) → getD font place 0 < 32
-row-below place = go (ltb place 2048) refl
+row-below place = go (ltb place tableLength) refl
   where
-    go : (b : Bool) → ltb place 2048 ≡ b → getD font place 0 < 32
-    go true e = table-rows place (ltb-true place 2048 e) .0
-    go false e = rw (row-past place (ltb-false place 2048 e)) (lit< tt)
+    go : (b : Bool) → ltb place tableLength ≡ b → getD font place 0 < 32
+    go true e = table-rows place (ltb-true place tableLength e) .0
+    go false e = rw (row-past place (ltb-false place tableLength e)) (lit< tt)
 
 -- Outside the shapes of 21h to 7Dh every row is zero.
 row-blank : (place : ℕ) → (leb 0x108 place && ltb place 0x3F0) ≡ false → getD font place 0 ≡ 0
 unfolding rightRow
-row-blank place out = go (ltb place 2048) refl
+row-blank place out = go (ltb place tableLength) refl
   where
-    go : (b : Bool) → ltb place 2048 ≡ b → getD font place 0 ≡ 0
+    go : (b : Bool) → ltb place tableLength ≡ b → getD font place 0 ≡ 0
     go true e =
         eqb-true _ 0
         (or-right (leb 0x108 place && ltb place 0x3F0) _
-        (and-right (not (eqb (place % 8) 7) || eqb (getD font place 0) 0) _
-        (and-right (ltb (getD font place 0) 32) _ (row-right place (ltb-true place 2048 e))))
+        (and-right (not (eqb (place % shapeRows + 1) shapeRows) || eqb (getD font place 0) 0) _
+        (and-right (ltb (getD font place 0) 32) _ (row-right place (ltb-true place tableLength e))))
         out)
-    go false e = row-past place (ltb-false place 2048 e)
+    go false e = row-past place (ltb-false place tableLength e)
 
 blank-below : (code : ℕ) → code < 0x21 → Blank code
-unfolding tableRow
-blank-below code h row r = row-blank (code * 8 + row) (simp (lt-leb 0x108 (code * 8 + row) (omega arith)))
+blank-below code h row r = row-blank (code * shapeRows + row) (simp (lt-leb 0x108 (code * shapeRows + row) (omega arith)))
 
 blank-above : (code : ℕ) → 0x7D < code → Blank code
-unfolding tableRow
 blank-above code h row r =
-    row-blank (code * 8 + row)
-    (simp (le-leb 0x108 (code * 8 + row) (omega arith), le-ltb (code * 8 + row) 0x3F0 (omega arith)))
+    row-blank (code * shapeRows + row)
+    (simp (le-leb 0x108 (code * shapeRows + row) (omega arith), le-ltb (code * shapeRows + row) 0x3F0 (omega arith)))
 
 -- Eight rows as one number, and the numbers of so many shapes in a row.
 packed : List ℕ → ℕ
@@ -96,15 +94,15 @@ packed (row ∷ rows) = row + 32 * packed rows
 
 numbers : ℕ → List ℕ → List ℕ
 numbers zero rows = []
-numbers (suc count) rows = packed (take 8 rows) ∷ numbers count (drop 8 rows)
+numbers (suc count) rows = packed (take shapeRows rows) ∷ numbers count (drop shapeRows rows)
 
-numbers-at : (count : ℕ) (rows : List ℕ) (k : ℕ) → k < count → getD (numbers count rows) k 0 ≡ packed (take 8 (drop (k * 8) rows))
+numbers-at : (count : ℕ) (rows : List ℕ) (k : ℕ) → k < count → getD (numbers count rows) k 0 ≡ packed (take shapeRows (drop (k * shapeRows) rows))
 unfolding numbers
 numbers-at zero rows k h = absurd (not-suc-le-zero h)
 numbers-at (suc count) rows zero h = refl
 numbers-at (suc count) rows (suc k) h =
-    numbers-at count (drop 8 rows) k (le-of-suc-le-suc h)
-    ∙ rw (drop-drop (k * 8) 8 rows, suc-mul, add-comm (k * 8) 8) refl
+    numbers-at count (drop shapeRows rows) k (le-of-suc-le-suc h)
+    ∙ rw (drop-drop (k * shapeRows) shapeRows rows, suc-mul, add-comm (k * shapeRows) shapeRows) refl
 
 -- No number of a list stands in it twice.
 absent : ℕ → List ℕ → Bool
@@ -140,26 +138,25 @@ shapes-distinct : distinct shapeNumbers ≡ true
 unfolding distinct absent shapeNumbers numbers packed font
 shapes-distinct = refl
 
-shape-number : (code : ℕ) → 0x20 ≤ code → code ≤ 0x7D → getD shapeNumbers (code - 0x20) 0 ≡ packed (take 8 (drop (code * 8) font))
+shape-number : (code : ℕ) → 0x20 ≤ code → code ≤ 0x7D → getD shapeNumbers (code - 0x20) 0 ≡ packed (take shapeRows (drop (code * shapeRows) font))
 unfolding shapeNumbers
 shape-number code low high =
-    let place : 0x100 + (code - 0x20) * 8 ≡ code * 8 = omega arith in
+    let place : 0x100 + (code - 0x20) * shapeRows ≡ code * shapeRows = omega arith in
     numbers-at 94 (drop 0x100 font) (code - 0x20) (omega arith)
-    ∙ rw (drop-drop ((code - 0x20) * 8) 0x100 font, place) refl
+    ∙ rw (drop-drop ((code - 0x20) * shapeRows) 0x100 font, place) refl
 
-shape-long : (code : ℕ) → code ≤ 0x7D → length (take 8 (drop (code * 8) font)) ≡ 8
+shape-long : (code : ℕ) → code ≤ 0x7D → length (take shapeRows (drop (code * shapeRows) font)) ≡ shapeRows
 shape-long code high = simp (length-take, length-drop, font-length) (omega arith)
 
-shape-row : (code row : ℕ) → row < 8 → getD (take 8 (drop (code * 8) font)) row 0 ≡ tableRow font code row
-unfolding tableRow
-shape-row code row h = getD-take 8 (drop (code * 8) font) row 0 h ∙ getD-drop (code * 8) font row 0
+shape-row : (code row : ℕ) → row < shapeRows → getD (take shapeRows (drop (code * shapeRows) font)) row 0 ≡ tableRow font code row
+shape-row code row h = getD-take shapeRows (drop (code * shapeRows) font) row 0 h ∙ getD-drop (code * shapeRows) font row 0
 
 -- Two codes that are alike have the same number.
-alike-number : (a b : ℕ) → a ≤ 0x7D → b ≤ 0x7D → Alike a b → packed (take 8 (drop (a * 8) font)) ≡ packed (take 8 (drop (b * 8) font))
+alike-number : (a b : ℕ) → a ≤ 0x7D → b ≤ 0x7D → Alike a b → packed (take shapeRows (drop (a * shapeRows) font)) ≡ packed (take shapeRows (drop (b * shapeRows) font))
 alike-number a b ha hb same =
     ap packed
     (ext-getD 0 _ _ (shape-long a ha ∙ sym (shape-long b hb))
-    (λ row h. let r : row < 8 = rw (shape-long a ha) at h in shape-row a row r ∙ same row r ∙ sym (shape-row b row r)))
+    (λ row h. let r : row < shapeRows = rw (shape-long a ha) at h in shape-row a row r ∙ same row r ∙ sym (shape-row b row r)))
 
 never-alike : (a b : ℕ) → 0x20 ≤ a → a < b → b ≤ 0x7D → Alike a b → ⊥
 never-alike a b low less high same =

@@ -2,27 +2,30 @@
 -- Assumes nothing.
 use mathlib.Core.Bool.{Bool, true, false, cond, not}
 use mathlib.Core.List.{List}
+use mathlib.Core.Logic.{_↔_}
 use mathlib.Core.Path.{_≡_, refl, sym, ap, fun-ext, _∙_}
-use Prim.Native.Nat.{ℕ, _+_, _*_, _/_, _%_, _≤_, _<_}
-use native.Mathlib.Nat.{add-zero, mod-eq-of-lt, mod-lt}
+use Prim.Native.Nat.{ℕ, _+_, _-_, _*_, _/_, _%_, _≤_, _<_}
+use native.Mathlib.Nat.{add-mul, add-mul-mod-self-right, add-zero, div-add-mod', mod-add-mod, mod-eq-of-lt, mod-lt, one-mul}
 use native.Mathlib.Omega.{arith}
-use borrow.Author.Tests.{eq-eqb, ltb-false, ne-eqb}
+use borrow.Author.Tests.{eq-eqb, lt-ltb, ltb-true, ne-eqb}
 use lib.Dec.{ltb, lit<}
 use lib.ListN.{length, getD}
 use Rattle.controller.specs.declared.answers.Answer.the-variants.{Done, Unsound, NotWhole, BadSize, OutputShort}
 use Rattle.controller.specs.declared.«record».Record.{Record}
 use Rattle.controller.specs.Bus.{whole}
 use Rattle.controller.specs.Cells.{lineLength}
-use Rattle.controller.specs.Answers.{isRefusal, numberOf}
+use Rattle.controller.specs.Answers.{isRefusal, numberOf, Given}
 use Rattle.controller.specs.Record.{sound, withFunction}
 use Rattle.controller.proofs.Laws.Answers.{first, given}
+use Rattle.controller.proofs.Laws.Choice.{and-left, and-right}
 use Rattle.dots.specs.declared.geometry.Shown.{Shown}
 use Rattle.dots.specs.declared.geometry.Shown.the-variants.{Cell, Undriven}
+use Rattle.dots.specs.declared.geometry.Size.{Size}
 use Rattle.dots.specs.Font.{font, tableRow}
-use Rattle.dots.specs.Geometry.{cellIn, drivenLines, fitsGlass, height, sizeOf}
-use Rattle.dots.specs.Picture.{answered, pictureByte, cellRow, covered, dotsAt, isOn, cursorSets, output, painted, patternRow, rowOf, shownRow}
-use Rattle.dots.specs.Theorems.{CursorShows, Draws, EachByte, FAltersNothing, FiveDots, LaterStay, OffDark, OnePicture, OnePosition, PictureAnswers, PictureRefusals, SecondLineDark, pictureRows}
-use Rattle.dots.proofs.Answers.{glass-columns}
+use Rattle.dots.specs.Geometry.{cellIn, drivenLines, height, isShownIn, pictureLength}
+use Rattle.dots.specs.Picture.{answerFor, answered, pictureByte, cellRow, covered, dotsAt, isOn, cursorSets, output, outputLeft, painted, patternRow, rowOf, shownRow}
+use Rattle.dots.specs.Theorems.{CursorShows, Draws, EachByte, FAltersNothing, FiveDots, LaterStay, OffDark, OnGlass, OnePicture, OnePosition, PictureAnswers, PictureRefusals, SecondLineDark, rowsFor}
+use Rattle.dots.proofs.Answers.{glass-columns, passed}
 use Rattle.dots.proofs.Logic.{and-false, either, of-either, or-true}
 use Rattle.dots.proofs.Painting.{painted-at, painted-length, painted-past}
 use Rattle.dots.proofs.Places.{column-of-place, dots-are-byte, row-ends, row-of-place}
@@ -33,51 +36,44 @@ unfolding dotsAt
 off-dark shapes rec mem lit line row column d = rw d refl
 
 pub second-line-dark : SecondLineDark
-unfolding dotsAt shownRow cellIn drivenLines
+unfolding dotsAt shownRow cellIn
 second-line-dark shapes rec mem lit row column n = rw n (either (λ (k : ℕ). k ≡ 0) (rec .control .d) 0 0 refl refl)
 
 -- What an answer 0 tells: the output has room, and it is painted.
-none-refused : (s w g r : Bool) → cond (not s) Unsound (cond (not w) NotWhole (cond (not g) BadSize (cond r OutputShort Done))) ≡ Done → r ≡ false
-none-refused true true true true e = cc
-none-refused true true true false e = refl
-none-refused true true false r e = cc
-none-refused true false g r e = cc
-none-refused false w g r e = cc
+module _ (rec : Record) (mem : List ℕ) (size : Size) (lit : Bool) (out : List ℕ) where
+  room : Draws rec mem size out → pictureLength (rec .function) size ≤ length out
+  unfolding isRefusal
+  room d = passed rec mem size _ _ (ap isRefusal d) .room
 
-module _ (rec : Record) (mem : List ℕ) (columns lines : ℕ) (lit : Bool) (out : List ℕ) where
-  room : Draws rec mem columns lines out → sizeOf (rec .function) columns lines ≤ length out
-  unfolding answered
-  room d = ltb-false _ _ (none-refused (sound rec) (whole mem) (fitsGlass columns lines) _ d)
-
-  drawn : Draws rec mem columns lines out → output rec mem columns lines lit out ≡ painted (pictureByte font rec mem lit columns) 0 (sizeOf (rec .function) columns lines) out
+  drawn : Draws rec mem size out → output rec mem size lit out ≡ painted (pictureByte font rec mem lit size) 0 (pictureLength (rec .function) size) out
   unfolding output isRefusal
   drawn d = rw d refl
 
   -- A byte of the picture, by its place.
-  byte : (at : ℕ) → Draws rec mem columns lines out → at < sizeOf (rec .function) columns lines → getD (output rec mem columns lines lit out) at 0 ≡ pictureByte font rec mem lit columns at
-  byte at d h = rw (drawn d) (painted-at _ 0 out (sizeOf (rec .function) columns lines) at (omega arith) (omega arith) (omega (arith, room d)))
+  byte : (at : ℕ) → Draws rec mem size out → at < pictureLength (rec .function) size → getD (output rec mem size lit out) at 0 ≡ pictureByte font rec mem lit size at
+  byte at d h = rw (drawn d) (painted-at _ 0 out (pictureLength (rec .function) size) at (omega arith) (omega arith) (omega (arith, room d)))
 
 pub each-byte : EachByte
-each-byte rec mem columns lines lit out line row column d hl hr hc =
+each-byte rec mem size lit out line row column d hl hr hc =
     let h = height (rec .function) in
-    let within : line * h + row < lines * h = omega (arith, row-ends h line lines hl) in
-    byte rec mem columns lines lit out ((line * h + row) * columns + column) d (omega (arith, row-ends columns (line * h + row) (lines * h) within))
-    ∙ sym (dots-are-byte font rec mem lit columns (line * h + row) column h refl hc)
+    let within : line * h + row < size .lines * h = omega (arith, row-ends h line (size .lines) hl) in
+    byte rec mem size lit out ((line * h + row) * size .columns + column) d (omega (arith, row-ends (size .columns) (line * h + row) (size .lines * h) within))
+    ∙ sym (dots-are-byte font rec mem lit size (line * h + row) column h refl hc)
     ∙ rw (row-of-place h line row hr, column-of-place h line row hr) refl
 
 pub later-stay : LaterStay
 unfolding output
-later-stay rec mem columns lines lit out =
-    let size = sizeOf (rec .function) columns lines in
-    let f = pictureByte font rec mem lit columns in
-    let refused = isRefusal (answered rec mem columns lines (length out)) in (
-      λ at h. either (λ (l : List ℕ). getD l at 0 ≡ getD out at 0) refused out (painted f 0 size out) refl (painted-past f 0 out size at (omega arith)),
-      either (λ (l : List ℕ). length l ≡ length out) refused out (painted f 0 size out) refl (painted-length f 0 out size),
+later-stay rec mem size lit out =
+    let long = pictureLength (rec .function) size in
+    let f = pictureByte font rec mem lit size in
+    let refused = isRefusal (answered rec mem size (length out)) in (
+      λ at h. either (λ (l : List ℕ). getD l at 0 ≡ getD out at 0) refused out (painted f 0 long out) refl (painted-past f 0 out long at (omega arith)),
+      either (λ (l : List ℕ). length l ≡ length out) refused out (painted f 0 long out) refl (painted-length f 0 out long),
     )
 
 -- Every row that can be shown is below 32.
 row-of-below : (mem : List ℕ) (code row : ℕ) → rowOf font mem code row < 32
-unfolding rowOf patternRow tableRow
+unfolding rowOf
 row-of-below mem code row = either (λ (k : ℕ). k < 32) (ltb code 0x10) _ _ (mod-lt _ (lit< tt)) (row-below _)
 
 shown-below : (rec : Record) (mem : List ℕ) (lit : Bool) (row : ℕ) (shown : Shown) → shownRow font rec mem lit row shown < 32
@@ -86,21 +82,27 @@ shown-below rec mem lit row (Cell cell) =
     either (λ (k : ℕ). k < 32) (covered rec lit row cell) 0b11111 (rowOf font mem (getD mem cell 0) row) (lit< tt) (row-of-below mem (getD mem cell 0) row)
 shown-below rec mem lit row Undriven = lit< tt
 
-byte-below : (rec : Record) (mem : List ℕ) (lit : Bool) (columns at : ℕ) → pictureByte font rec mem lit columns at < 32
+byte-below : (rec : Record) (mem : List ℕ) (lit : Bool) (size : Size) (at : ℕ) → pictureByte font rec mem lit size at < 32
 unfolding pictureByte dotsAt
-byte-below rec mem lit columns at = either (λ (k : ℕ). k < 32) (rec .control .d) _ 0 (shown-below rec mem lit _ _) (lit< tt)
+byte-below rec mem lit size at = either (λ (k : ℕ). k < 32) (rec .control .d) _ 0 (shown-below rec mem lit _ _) (lit< tt)
 
 pub five-dots : FiveDots
-five-dots rec mem columns lines lit out at d h = rw (byte rec mem columns lines lit out at d h) (byte-below rec mem lit columns at)
+five-dots rec mem size lit out at d h = rw (byte rec mem size lit out at d h) (byte-below rec mem lit size at)
+
+-- What a position shows that shows a cell.
+shown-at : (driven length shift line column cell : ℕ) → cellIn driven length shift line column ≡ Cell cell
+    → (ltb line driven ≡ true) × (line * length + (column + shift) % length ≡ cell)
+unfolding cellIn
+shown-at driven length shift line column cell = go (ltb line driven)
+  where
+    go : (b : Bool) → cond b (Cell (line * length + (column + shift) % length)) Undriven ≡ Cell cell
+        → (b ≡ true) × (line * length + (column + shift) % length ≡ cell)
+    go true e = (refl, cc)
+    go false e = let z : _≡_ {A = ℕ} 0 1 = cc in absurd (omega arith)
 
 -- At shift 0, position p of a line shows its cell p.
 in-place : (driven length cell line position : ℕ) → position < length → cellIn driven length 0 line position ≡ Cell cell → line * length + position ≡ cell
-unfolding cellIn
-in-place driven length cell line position h = go (ltb line driven)
-  where
-    go : (b : Bool) → cond b (Cell (line * length + (position + 0) % length)) Undriven ≡ Cell cell → line * length + position ≡ cell
-    go true e = let at : line * length + (position + 0) % length ≡ cell = cc in rw (add-zero, mod-eq-of-lt h) at at
-    go false e = cc
+in-place driven length cell line position h e = rw (add-zero, mod-eq-of-lt h) at (shown-at driven length 0 line position cell e .1)
 
 apart : (driven length cell line position line′ position′ : ℕ) → position < length → position′ < length → cellIn driven length 0 line position ≡ Cell cell → cellIn driven length 0 line′ position′ ≡ Cell cell → (line ≡ line′) × (position ≡ position′)
 apart driven length cell line position line′ position′ h h′ e e′ =
@@ -109,23 +111,72 @@ apart driven length cell line position line′ position′ h h′ e e′ =
       sym (column-of-place length line position h) ∙ ap (λ (k : ℕ). k % length) same ∙ column-of-place length line′ position′ h′,
     )
 
+line-long : (n : Bool) → 40 ≤ lineLength n
+line-long true = omega arith
+line-long false = omega arith
+
 pub one-position : OnePosition
-unfolding lineLength drivenLines
-one-position true columns lines cell line position line′ position′ g hl hl′ hp hp′ e e′ =
-    let most = glass-columns columns lines g in
-    apart 2 40 cell line position line′ position′ (omega arith) (omega arith) e e′
-one-position false columns lines cell line position line′ position′ g hl hl′ hp hp′ e e′ =
-    let most = glass-columns columns lines g in
-    apart 1 80 cell line position line′ position′ (omega arith) (omega arith) e e′
+one-position n size cell line position line′ position′ g hl hl′ hp hp′ e e′ =
+    let most = glass-columns size g in
+    let long = line-long n in
+    apart (drivenLines n) (lineLength n) cell line position line′ position′ (omega arith) (omega arith) e e′
+
+-- A column, shifted on and back again.
+turned-back : (length shift column : ℕ) → column < length → (column + shift + (length - shift % length)) % length ≡ column
+turned-back length shift column h =
+    let some : 0 < length = omega arith in
+    let whole : column + shift + (length - shift % length) ≡ column + (shift / length + 1) * length =
+    omega (arith, div-add-mod' shift length, mod-lt shift some, add-mul (shift / length) 1 length, one-mul length) in
+    rw (whole, add-mul-mod-self-right) (mod-eq-of-lt h)
+
+module _ (driven length shift : ℕ) (size : Size) (cell : ℕ) (some : 0 < length) where
+  found : isShownIn driven length shift size cell ≡ true
+      → cellIn driven length shift (cell / length) ((cell % length + (length - shift % length)) % length) ≡ Cell cell
+  unfolding isShownIn cellIn
+  found is =
+      let turned : cell % length + (length - shift % length) + shift ≡ cell % length + shift + (length - shift % length) = omega arith in
+      let back : ((cell % length + (length - shift % length)) % length + shift) % length ≡ cell % length =
+      rw (mod-add-mod, turned) (turned-back length shift (cell % length) (mod-lt cell some)) in
+      let driving : ltb (cell / length) driven ≡ true = and-left _ _ is in
+      rw (driving, back) (ap Cell (div-add-mod' cell length))
+
+  showing : (line column : ℕ) → column < length → line < size .lines → column < size .columns → cellIn driven length shift line column ≡ Cell cell
+      → isShownIn driven length shift size cell ≡ true
+  unfolding isShownIn
+  showing line column within l k e =
+      let at = shown-at driven length shift line column cell e in
+      let inside = mod-lt (column + shift) some in
+      let row : cell / length ≡ line = rw (sym (at .1)) (row-of-place length line _ inside) in
+      let rest : cell % length ≡ (column + shift) % length = rw (sym (at .1)) (column-of-place length line _ inside) in
+      let back : (cell % length + (length - shift % length)) % length ≡ column = rw (rest, mod-add-mod) (turned-back length shift column within) in
+      rw (row, back, at .0, lt-ltb line _ l, lt-ltb column _ k) refl
+
+pub on-glass : OnGlass
+unfolding isShownIn
+on-glass n shift size cell fits =
+    let length = lineLength n in
+    let long : 40 ≤ length = line-long n in
+    let most = glass-columns size fits in (
+      λ is. let shown = and-right (ltb (cell / length) (drivenLines n)) _ is in
+          record {
+            line = cell / length;
+            column = (cell % length + (length - shift % length)) % length;
+            on-line = ltb-true (cell / length) (size .lines) (and-left _ _ shown);
+            on-column = ltb-true _ (size .columns) (and-right (ltb (cell / length) (size .lines)) _ shown);
+            shows = found (drivenLines n) length shift size cell (omega arith) is;
+          },
+      λ p. let k = p .on-column in
+          showing (drivenLines n) length shift size cell (omega arith) (p .line) (p .column) (omega arith) (p .on-line) k (p .shows),
+    )
 
 pub cursor-shows : CursorShows
-unfolding cellRow covered isOn cursorSets height
+unfolding cellRow covered cursorSets
 cursor-shows shapes rec mem cell =
     let same = eq-eqb cell cell refl in
     record {
-      underlined = λ on c lit. simp (on, same, c);
+      underlined = λ on c lit row last. simp (on, same, c, eq-eqb _ _ last);
       blinking = λ on b row. simp (on, same, b, or-true);
-      higher = λ lit b row h. simp (b, ne-eqb (row + 1) 8 (λ e. omega arith), and-false);
+      higher = λ lit b row h. simp (b, ne-eqb (row + 1) (height (rec .function)) (λ e. omega arith), and-false);
       without = λ lit b c row. simp (b, c, and-false);
       elsewhere = λ lit off row. simp off;
     }
@@ -136,28 +187,27 @@ unfolding shownRow cellRow covered height
 shown-without-f shapes rec f mem lit row (Cell cell) = refl
 shown-without-f shapes rec f mem lit row Undriven = refl
 
-byte-without-f : (rec : Record) (f : Bool) (mem : List ℕ) (lit : Bool) (columns at : ℕ) → pictureByte font (withFunction (rec .wide) (record { n = rec .function .n; f = f }) rec) mem lit columns at ≡ pictureByte font rec mem lit columns at
+byte-without-f : (rec : Record) (f : Bool) (mem : List ℕ) (lit : Bool) (size : Size) (at : ℕ) → pictureByte font (withFunction (rec .wide) (record { n = rec .function .n; f = f }) rec) mem lit size at ≡ pictureByte font rec mem lit size at
 unfolding pictureByte dotsAt height
-byte-without-f rec f mem lit columns at = rw (shown-without-f font rec f mem lit) refl
+byte-without-f rec f mem lit size at = rw (shown-without-f font rec f mem lit) refl
 
 pub f-alters-nothing : FAltersNothing
-unfolding answered output sound height
-f-alters-nothing rec f mem columns lines lit out = (
-  refl,
-  ap (λ (g : ℕ → ℕ). cond (isRefusal (answered rec mem columns lines (length out))) out (painted g 0 (lines * 8 * columns) out)) (fun-ext (byte-without-f rec f mem lit columns)),
-)
+unfolding answerFor output sound height
+f-alters-nothing rec f mem size lit out =
+    (refl, ap (λ (g : ℕ → ℕ). outputLeft (answered rec mem size (length out)) g (pictureLength (rec .function) size) out) (fun-ext (byte-without-f rec f mem lit size)))
 
--- The answer's number is that of the first row that applies.
-answer-first : (rec : Record) (mem : List ℕ) (columns lines room : ℕ) → numberOf (answered rec mem columns lines room) ≡ first (pictureRows rec mem columns lines room)
-unfolding answered first pictureRows
-answer-first rec mem columns lines room = simp (of-either numberOf)
+-- The number of such a call's answer is that of the first row that applies.
+pub answers-given : (rec : Record) (mem : List ℕ) (size : Size) (bytes room n : ℕ)
+    → (numberOf (answerFor rec mem size bytes room) ≡ n) ↔ Given n (rowsFor rec mem size bytes room)
+unfolding answerFor first rowsFor
+answers-given rec mem size bytes room = given _ (rowsFor rec mem size bytes room) (simp (of-either numberOf))
 
 pub picture-answers : PictureAnswers
-picture-answers rec mem columns lines room = given _ (pictureRows rec mem columns lines room) (answer-first rec mem columns lines room)
+picture-answers rec mem size room = answers-given rec mem size _ room
 
 pub picture-refusals : PictureRefusals
 unfolding output
-picture-refusals rec mem columns lines lit out e = rw e refl
+picture-refusals rec mem size lit out e = rw e refl
 
 pub one-picture : OnePicture
-one-picture rec mem columns lines lit before a b x y p q = (p .told ∙ sym (q .told), p .out ∙ sym (q .out))
+one-picture rec mem size lit before a b x y p q = (p .told ∙ sym (q .told), p .out ∙ sym (q .out))

@@ -12,6 +12,7 @@ use Rattle.controller.specs.Cells.{addOfCell}
 use Rattle.controller.specs.Cases.{Waits}
 use Rattle.dots.specs.declared.geometry.Shown.{Shown}
 use Rattle.dots.specs.declared.geometry.Shown.the-variants.{Cell, Undriven}
+use Rattle.dots.specs.declared.geometry.Size.{Size}
 use Rattle.dots.specs.Geometry.{cellAt}
 use Rattle.dots.specs.Picture.{output, rowOf}
 
@@ -36,5 +37,5 @@ P5 =
 abbrev pub P7 : Type 0
 P7 =
     ((shapes mem : List ℕ) (row : ℕ) → rowOf shapes mem 0x00 row ≡ rowOf shapes mem 0x08 row)
-    × ((rec : Record) (mem : List ℕ) (columns lines : ℕ) (lit : Bool) (out : List ℕ) (cell : ℕ) → cell < 80 → getD mem cell 0 ≡ 0x00
-    → output rec (set mem cell 0x08) columns lines lit out ≡ output rec mem columns lines lit out)
+    × ((rec : Record) (mem : List ℕ) (size : Size) (lit : Bool) (out : List ℕ) (cell : ℕ) → cell < 80 → getD mem cell 0 ≡ 0x00
+    → output rec (set mem cell 0x08) size lit out ≡ output rec mem size lit out)

@@ -108,6 +108,14 @@ unfoldable pub font : List ℕ
 unfolding drawnShapes
 font = replicate 256 0 ++ drawnShapes ++ replicate 1040 0
 
+-- The rows of a code in the table.
+abbrev pub shapeRows : ℕ
+shapeRows = 8
+
+-- The rows of all codes.
+abbrev pub tableLength : ℕ
+tableLength = 256 * shapeRows
+
 -- One row of a code's shape in a table of shapes.
-unfoldable pub tableRow : List ℕ → ℕ → ℕ → ℕ
-tableRow shapes code row = getD shapes (code * 8 + row) 0
+abbrev pub tableRow : List ℕ → ℕ → ℕ → ℕ
+tableRow shapes code row = getD shapes (code * shapeRows + row) 0

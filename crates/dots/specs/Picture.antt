@@ -18,11 +18,12 @@ use Rattle.controller.specs.Answers.{numberOf, isRefusal}
 use Rattle.controller.specs.Record.{sound}
 use Rattle.dots.specs.declared.geometry.Shown.{Shown}
 use Rattle.dots.specs.declared.geometry.Shown.the-variants.{Cell, Undriven}
-use Rattle.dots.specs.Font.{font, tableRow}
-use Rattle.dots.specs.Geometry.{fitsGlass, height, sizeOf, cellAt}
+use Rattle.dots.specs.declared.geometry.Size.{Size}
+use Rattle.dots.specs.Font.{font, tableLength, tableRow}
+use Rattle.dots.specs.Geometry.{fitsGlass, height, pictureLength, cellAt}
 
 -- Pattern (code modulo 8), low five bits. The pattern cells stand behind the 80 display cells, eight to a pattern.
-unfoldable pub patternRow : List ℕ → ℕ → ℕ → ℕ
+abbrev pub patternRow : List ℕ → ℕ → ℕ → ℕ
 patternRow mem code row = getD mem (80 + code % 8 * 8 + row) 0 % 32
 
 -- Codes 00h to 0Fh show a pattern, other codes come from the table of shapes.
@@ -30,7 +31,7 @@ unfoldable pub rowOf : List ℕ → List ℕ → ℕ → ℕ → ℕ
 rowOf shapes mem code row = cond (ltb code 0x10) (patternRow mem code row) (tableRow shapes code row)
 
 -- The counter is on this display cell.
-unfoldable pub isOn : Counter → ℕ → Bool
+abbrev pub isOn : Counter → ℕ → Bool
 isOn (Display at) cell = eqb at cell
 isOn (Pattern at) cell = false
 
@@ -57,38 +58,47 @@ dotsAt shapes rec mem lit line row column =
     cond (rec .control .d) (shownRow shapes rec mem lit row (cellAt (rec .function .n) (rec .shift) line column)) 0
 
 -- Output byte (line x 8 + row) x columns + column holds the five dots at line, row and column.
-unfoldable pub pictureByte : List ℕ → Record → List ℕ → Bool → ℕ → ℕ → ℕ
-pictureByte shapes rec mem lit columns at =
-    dotsAt shapes rec mem lit (at / columns / height (rec .function)) (at / columns % height (rec .function)) (at % columns)
+unfoldable pub pictureByte : List ℕ → Record → List ℕ → Bool → Size → ℕ → ℕ
+pictureByte shapes rec mem lit size at =
+    dotsAt shapes rec mem lit
+    (at / size .columns / height (rec .function)) (at / size .columns % height (rec .function)) (at % size .columns)
 
 -- Bytes start to start + count - 1 become f of their place; all others stay.
 unfoldable pub painted : (ℕ → ℕ) → ℕ → ℕ → List ℕ → List ℕ
 painted f start zero out = out
 painted f start (suc count) out = set (painted f start count out) (start + count) (f (start + count))
 
--- The answer, the refusals in their order: 1, 2, 10, 11. `room` is the length of the output.
-unfoldable pub answered : Record → List ℕ → ℕ → ℕ → ℕ → Answer
-answered rec mem columns lines room =
+-- The answer where so many bytes are to be drawn, the refusals in their order: 1, 2, 10, 11. `room` is the length of the output.
+unfoldable pub answerFor : Record → List ℕ → Size → ℕ → ℕ → Answer
+answerFor rec mem size bytes room =
     cond (not (sound rec)) Unsound
     (cond (not (whole mem)) NotWhole
-    (cond (not (fitsGlass columns lines)) BadSize
-    (cond (ltb room (sizeOf (rec .function) columns lines)) OutputShort
+    (cond (not (fitsGlass size)) BadSize
+    (cond (ltb room bytes) OutputShort
     Done)))
 
--- The output left behind: as found on a refusal, else the picture, later bytes as found.
-unfoldable pub output : Record → List ℕ → ℕ → ℕ → Bool → List ℕ → List ℕ
-output rec mem columns lines lit out =
-    cond (isRefusal (answered rec mem columns lines (length out))) out
-    (painted (pictureByte font rec mem lit columns) 0 (sizeOf (rec .function) columns lines) out)
+-- The output left behind: as found on a refusal, else so many bytes are drawn, later bytes as found.
+abbrev pub outputLeft : Answer → (ℕ → ℕ) → ℕ → List ℕ → List ℕ
+outputLeft answer byte bytes out = cond (isRefusal answer) out (painted byte 0 bytes out)
+
+-- The answer of the picture.
+abbrev pub answered : Record → List ℕ → Size → ℕ → Answer
+answered rec mem size room = answerFor rec mem size (pictureLength (rec .function) size) room
+
+-- The output that the picture leaves.
+unfoldable pub output : Record → List ℕ → Size → Bool → List ℕ → List ℕ
+output rec mem size lit out =
+    outputLeft (answered rec mem size (length out)) (pictureByte font rec mem lit size) (pictureLength (rec .function) size) out
 
 -- What `picture` promises: the answer, its number in the table, and every byte of the output.
-pub record Pictured (rec : Record) (mem : List ℕ) (columns lines : ℕ) (lit : Bool) (before : List ℕ) (answer : Answer) (after : List ℕ) : Type 0 where
-  pub told : answer ≡ answered rec mem columns lines (length before)
-  pub number : numberOf answer ≡ numberOf (answered rec mem columns lines (length before))
-  pub out : after ≡ output rec mem columns lines lit before
+pub record Pictured (rec : Record) (mem : List ℕ) (size : Size) (lit : Bool) (before : List ℕ) (answer : Answer) (after : List ℕ)
+    : Type 0 where
+  pub told : answer ≡ answered rec mem size (length before)
+  pub number : numberOf answer ≡ numberOf (answered rec mem size (length before))
+  pub out : after ≡ output rec mem size lit before
 
 -- What the functions that draw lean on: of a sound record the shift, and the lengths of the table and of the memory.
 pub record Drawable (shapes : List ℕ) (rec : Record) (mem : List ℕ) : Type 0 where
-  pub table : length shapes ≡ 2048
+  pub table : length shapes ≡ tableLength
   pub shift : rec .shift < 80
   pub whole : length mem ≡ 144

@@ -16,43 +16,58 @@ use Rattle.controller.specs.Bus.{whole}
 use Rattle.controller.specs.Answers.{isRefusal, numberOf, Row, Given}
 use Rattle.controller.specs.Record.{sound, withFunction}
 use Rattle.dots.specs.declared.geometry.Shown.the-variants.{Cell}
-use Rattle.dots.specs.Font.{font, tableRow}
-use Rattle.dots.specs.Geometry.{fitsGlass, height, sizeOf, cellAt}
+use Rattle.dots.specs.declared.geometry.Size.{Size}
+use Rattle.dots.specs.Font.{font, shapeRows, tableLength, tableRow}
+use Rattle.dots.specs.Geometry.{fitsGlass, height, pictureLength, cellAt, isShown}
 use Rattle.dots.specs.Picture.{Pictured, answered, cellRow, dotsAt, isOn, output, rowOf}
 
 -- This call is answered 0.
-abbrev pub Draws : Record → List ℕ → ℕ → ℕ → List ℕ → Type 0
-Draws rec mem columns lines out = answered rec mem columns lines (length out) ≡ Done
+abbrev pub Draws : Record → List ℕ → Size → List ℕ → Type 0
+Draws rec mem size out = answered rec mem size (length out) ≡ Done
 
 -- Output byte (line x 8 + row) x columns + column holds the five dots at line, row and column.
 abbrev pub EachByte : Type 0
 EachByte =
-    (rec : Record) (mem : List ℕ) (columns lines : ℕ) (lit : Bool) (out : List ℕ) (line row column : ℕ)
-    → Draws rec mem columns lines out → line < lines → row < height (rec .function) → column < columns
-    → getD (output rec mem columns lines lit out) ((line * height (rec .function) + row) * columns + column) 0
+    (rec : Record) (mem : List ℕ) (size : Size) (lit : Bool) (out : List ℕ) (line row column : ℕ)
+    → Draws rec mem size out → line < size .lines → row < height (rec .function) → column < size .columns
+    → getD (output rec mem size lit out) ((line * height (rec .function) + row) * size .columns + column) 0
     ≡ dotsAt font rec mem lit line row column
 
 -- Five dots and no more: every byte of a picture is below 32.
 abbrev pub FiveDots : Type 0
 FiveDots =
-    (rec : Record) (mem : List ℕ) (columns lines : ℕ) (lit : Bool) (out : List ℕ) (at : ℕ)
-    → Draws rec mem columns lines out → at < sizeOf (rec .function) columns lines
-    → getD (output rec mem columns lines lit out) at 0 < 32
+    (rec : Record) (mem : List ℕ) (size : Size) (lit : Bool) (out : List ℕ) (at : ℕ)
+    → Draws rec mem size out → at < pictureLength (rec .function) size
+    → getD (output rec mem size lit out) at 0 < 32
 
 -- Later bytes stay, and the output keeps its length.
 abbrev pub LaterStay : Type 0
 LaterStay =
-    (rec : Record) (mem : List ℕ) (columns lines : ℕ) (lit : Bool) (out : List ℕ)
-    → ((at : ℕ) → sizeOf (rec .function) columns lines ≤ at → getD (output rec mem columns lines lit out) at 0 ≡ getD out at 0)
-    × (length (output rec mem columns lines lit out) ≡ length out)
+    (rec : Record) (mem : List ℕ) (size : Size) (lit : Bool) (out : List ℕ)
+    → ((at : ℕ) → pictureLength (rec .function) size ≤ at → getD (output rec mem size lit out) at 0 ≡ getD out at 0)
+    × (length (output rec mem size lit out) ≡ length out)
 
 -- At shift 0 no cell shows at two positions: for every size in range and both N.
 abbrev pub OnePosition : Type 0
 OnePosition =
-    (n : Bool) (columns lines cell line position line′ position′ : ℕ)
-    → fitsGlass columns lines ≡ true → line < lines → line′ < lines → position < columns → position′ < columns
+    (n : Bool) (size : Size) (cell line position line′ position′ : ℕ)
+    → fitsGlass size ≡ true → line < size .lines → line′ < size .lines → position < size .columns → position′ < size .columns
     → cellAt n 0 line position ≡ Cell cell → cellAt n 0 line′ position′ ≡ Cell cell
     → (line ≡ line′) × (position ≡ position′)
+
+-- A position of the glass, and the display cell that it shows.
+pub record Position (n : Bool) (shift : ℕ) (size : Size) (cell : ℕ) : Type 0 where
+  pub line : ℕ
+  pub column : ℕ
+  pub on-line : line < size .lines
+  pub on-column : column < size .columns
+  pub shows : cellAt n shift line column ≡ Cell cell
+
+-- A display cell is shown exactly where a position of the glass shows it.
+abbrev pub OnGlass : Type 0
+OnGlass =
+    (n : Bool) (shift : ℕ) (size : Size) (cell : ℕ) → fitsGlass size ≡ true
+    → (isShown n shift size cell ≡ true) ↔ Position n shift size cell
 
 -- N=0: line 2 is zero.
 abbrev pub SecondLineDark : Type 0
@@ -62,11 +77,11 @@ SecondLineDark =
 
 -- All rows of a code are zero in the table.
 abbrev pub Blank : ℕ → Type 0
-Blank code = (row : ℕ) → row < 8 → tableRow font code row ≡ 0
+Blank code = (row : ℕ) → row < shapeRows → tableRow font code row ≡ 0
 
 -- All rows of two codes are the same in the table.
 abbrev pub Alike : ℕ → ℕ → Type 0
-Alike a b = (row : ℕ) → row < 8 → tableRow font a row ≡ tableRow font b row
+Alike a b = (row : ℕ) → row < shapeRows → tableRow font a row ≡ tableRow font b row
 
 -- Outside 20h to 7Dh the table is blank. 20h is blank too; 21h to 7Dh are none of them blank and no two alike.
 pub record TableShapes : Type 0 where
@@ -78,23 +93,26 @@ pub record TableShapes : Type 0 where
 
 -- Every row in the table is below 32 and every eighth row is 0.
 abbrev pub TableRows : Type 0
-TableRows = (place : ℕ) → place < 2048 → (getD font place 0 < 32) × (place % 8 ≡ 7 → getD font place 0 ≡ 0)
+TableRows =
+    (place : ℕ) → place < tableLength → (getD font place 0 < 32) × (place % shapeRows + 1 ≡ shapeRows → getD font place 0 ≡ 0)
 
 -- F does not alter the picture, nor the answer.
 abbrev pub FAltersNothing : Type 0
 FAltersNothing =
-    (rec : Record) (f : Bool) (mem : List ℕ) (columns lines : ℕ) (lit : Bool) (out : List ℕ)
+    (rec : Record) (f : Bool) (mem : List ℕ) (size : Size) (lit : Bool) (out : List ℕ)
     → let other = withFunction (rec .wide) (record { n = rec .function .n; f = f }) rec in
-    (answered other mem columns lines (length out) ≡ answered rec mem columns lines (length out))
-    × (output other mem columns lines lit out ≡ output rec mem columns lines lit out)
+    (answered other mem size (length out) ≡ answered rec mem size (length out))
+    × (output other mem size lit out ≡ output rec mem size lit out)
 
--- With the counter on this display cell, C=1 sets all five dots of its eighth row, and B=1 in the lit phase sets all forty.
+-- With the counter on this display cell, C=1 sets all five dots of its last row, and B=1 in the lit phase those of every row.
 -- Any other row is that of the cell's code.
 pub record Cursor (shapes : List ℕ) (rec : Record) (mem : List ℕ) (cell : ℕ) : Type 0 where
-  pub underlined : rec .counter ≡ Display cell → rec .control .c ≡ true → (lit : Bool) → cellRow shapes rec mem lit 7 cell ≡ 0b11111
+  pub underlined :
+      rec .counter ≡ Display cell → rec .control .c ≡ true → (lit : Bool) (row : ℕ) → row + 1 ≡ height (rec .function)
+      → cellRow shapes rec mem lit row cell ≡ 0b11111
   pub blinking : rec .counter ≡ Display cell → rec .control .b ≡ true → (row : ℕ) → cellRow shapes rec mem true row cell ≡ 0b11111
   pub higher :
-      (lit : Bool) → (rec .control .b && lit) ≡ false → (row : ℕ) → row < 7
+      (lit : Bool) → (rec .control .b && lit) ≡ false → (row : ℕ) → row + 1 < height (rec .function)
       → cellRow shapes rec mem lit row cell ≡ rowOf shapes mem (getD mem cell 0) row
   pub without :
       (lit : Bool) → (rec .control .b && lit) ≡ false → rec .control .c ≡ false → (row : ℕ)
@@ -113,29 +131,33 @@ OffDark =
     (shapes : List ℕ) (rec : Record) (mem : List ℕ) (lit : Bool) (line row column : ℕ)
     → rec .control .d ≡ false → dotsAt shapes rec mem lit line row column ≡ 0
 
--- The rows of picture in their order.
-unfoldable pub pictureRows : Record → List ℕ → ℕ → ℕ → ℕ → List Row
-pictureRows rec mem columns lines room =
+-- The rows of a call that draws so many bytes, in their order.
+unfoldable pub rowsFor : Record → List ℕ → Size → ℕ → ℕ → List Row
+rowsFor rec mem size bytes room =
     record { number = 1; applies = not (sound rec) }
     ∷ record { number = 2; applies = not (whole mem) }
-    ∷ record { number = 10; applies = not (fitsGlass columns lines) }
-    ∷ record { number = 11; applies = ltb room (sizeOf (rec .function) columns lines) }
+    ∷ record { number = 10; applies = not (fitsGlass size) }
+    ∷ record { number = 11; applies = ltb room bytes }
     ∷ []
+
+-- The rows of picture.
+abbrev pub pictureRows : Record → List ℕ → Size → ℕ → List Row
+pictureRows rec mem size room = rowsFor rec mem size (pictureLength (rec .function) size) room
 
 -- Each number is given exactly where its row applies and none before it in the order.
 abbrev pub PictureAnswers : Type 0
 PictureAnswers =
-    (rec : Record) (mem : List ℕ) (columns lines room n : ℕ)
-    → (numberOf (answered rec mem columns lines room) ≡ n) ↔ Given n (pictureRows rec mem columns lines room)
+    (rec : Record) (mem : List ℕ) (size : Size) (room n : ℕ)
+    → (numberOf (answered rec mem size room) ≡ n) ↔ Given n (pictureRows rec mem size room)
 
 -- A refusal leaves the output as found.
 abbrev pub PictureRefusals : Type 0
 PictureRefusals =
-    (rec : Record) (mem : List ℕ) (columns lines : ℕ) (lit : Bool) (out : List ℕ)
-    → isRefusal (answered rec mem columns lines (length out)) ≡ true → output rec mem columns lines lit out ≡ out
+    (rec : Record) (mem : List ℕ) (size : Size) (lit : Bool) (out : List ℕ)
+    → isRefusal (answered rec mem size (length out)) ≡ true → output rec mem size lit out ≡ out
 
 -- No second answer fits: two answers that both meet the promise are one, and so are the outputs.
 abbrev pub OnePicture : Type 0
 OnePicture =
-    (rec : Record) (mem : List ℕ) (columns lines : ℕ) (lit : Bool) (before : List ℕ) (a b : Answer) (x y : List ℕ)
-    → Pictured rec mem columns lines lit before a x → Pictured rec mem columns lines lit before b y → (a ≡ b) × (x ≡ y)
+    (rec : Record) (mem : List ℕ) (size : Size) (lit : Bool) (before : List ℕ) (a b : Answer) (x y : List ℕ)
+    → Pictured rec mem size lit before a x → Pictured rec mem size lit before b y → (a ≡ b) × (x ≡ y)

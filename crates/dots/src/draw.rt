@@ -1,15 +1,20 @@
 // The picture: the dots of each byte, the bytes row by row, and the public call with its refusals. `shapes` is the table,
 // laid out once for a picture and lent to all that draws it; `lit` says whether a cell that blinks is lit now.
+ghost use mathlib.Core.Bool.{true};
 ghost use mathlib.Core.Path.{_≡_};
 ghost use Prim.Native.Nat.{_*_, _+_, _≤_, _<_};
 ghost use lib.ListN.{length};
-ghost use Rattle.dots.specs.Geometry.{ShownWithin, height};
-ghost use Rattle.dots.specs.Picture.{Drawable, Pictured, pictureByte, cellRow, covered, dotsAt, isOn, cursorSets, painted, patternRow, rowOf, shownRow};
+ghost use Rattle.dots.specs.Font.{tableLength};
+ghost use Rattle.dots.specs.Geometry.{ShownWithin, fitsGlass, height, pictureLength, tallest};
+ghost use Rattle.dots.specs.Picture.{Drawable, Pictured, pictureByte, cellRow, covered, dotsAt, isOn, cursorSets, painted};
+ghost use Rattle.dots.specs.Picture.{patternRow, rowOf, shownRow};
 use crate::font::table;
 use crate::font::table_row;
 use crate::geometry::Shown;
+use crate::geometry::Size;
 use crate::geometry::cell_at;
 use crate::geometry::fits_glass;
+use crate::geometry::picture_length;
 use crate::geometry::rows_of;
 use controller::Answer;
 use controller::Control;
@@ -20,7 +25,7 @@ use controller::is_whole;
 
 // One row of the pattern that a code 00h to 0Fh shows.
 fn pattern_row(memory: &[u8], code: u8, row: usize) -> u8
-    requires { ⌜ (length (now memory) ≡ 144) × (row < 8) ⌝ }
+    requires { ⌜ (length (now memory) ≡ 144) × (row < tallest) ⌝ }
     ensures { λ r. ⌜ r ≡ patternRow (now (memory .entry)) code row ⌝ }
 {
     let at = 80 + (code % 8) as usize * 8 + row;
@@ -28,7 +33,7 @@ fn pattern_row(memory: &[u8], code: u8, row: usize) -> u8
 }
 
 fn row_of(shapes: &[u8], memory: &[u8], code: u8, row: usize) -> u8
-    requires { ⌜ (length (now shapes) ≡ 2048) × (length (now memory) ≡ 144) × (row < 8) ⌝ }
+    requires { ⌜ (length (now shapes) ≡ tableLength) × (length (now memory) ≡ 144) × (row < tallest) ⌝ }
     ensures { λ r. ⌜ r ≡ rowOf (now (shapes .entry)) (now (memory .entry)) code row ⌝ }
 {
     if code < 0x10 {
@@ -49,7 +54,7 @@ fn is_on(counter: Counter, cell: usize) -> bool
 
 // Whether the cursor or the blinking sets this row of the counter's cell.
 fn cursor_sets(control: Control, lit: bool, rows: usize, row: usize) -> bool
-    requires { ⌜ row < 8 ⌝ }
+    requires { ⌜ row < tallest ⌝ }
     ensures { λ r. ⌜ r ≡ cursorSets control lit rows row ⌝ }
 {
     if control.c {
@@ -124,56 +129,49 @@ fn draw_row(
     rec: Record,
     memory: &[u8],
     lit: bool,
-    columns: usize,
+    size: Size,
     at: usize,
     out: &mut [u8],
 )
-    requires { ⌜ (Drawable (now shapes) rec (now memory)) × (columns ≤ 40) × (at * columns + columns ≤ length (now out)) ⌝ }
-    ensures { λ _. ⌜ now (out .exit) ≡ painted (pictureByte (now (shapes .entry)) rec (now (memory .entry)) lit columns) (at * columns) columns (now (out .entry)) ⌝ }
+    requires { ⌜ (Drawable (now shapes) rec (now memory)) × (fitsGlass size ≡ true)
+        × (at * size .columns + size .columns ≤ length (now out)) ⌝ }
+    ensures { λ _.
+        let byte = pictureByte (now (shapes .entry)) rec (now (memory .entry)) lit size in
+        ⌜ now (out .exit) ≡ painted byte (at * size .columns) (size .columns) (now (out .entry)) ⌝ }
 {
     let function = rec.function;
     let rows = rows_of(function);
     let line = at / rows;
     let row = at % rows;
-    let start = at * columns;
+    let start = at * size.columns as usize;
     let mut column = 0;
-    while column < columns {
+    while column < size.columns as usize {
         out[start + column] = dots_at(shapes, rec, memory, lit, line, row, column);
         column += 1;
     }
 }
 
 // The whole picture, row after row.
-fn draw(
-    shapes: &[u8],
-    rec: Record,
-    memory: &[u8],
-    lit: bool,
-    columns: usize,
-    rows: usize,
-    out: &mut [u8],
-)
-    requires { ⌜ (Drawable (now shapes) rec (now memory)) × (columns ≤ 40) × (rows * columns ≤ length (now out)) ⌝ }
-    ensures { λ _. ⌜ now (out .exit) ≡ painted (pictureByte (now (shapes .entry)) rec (now (memory .entry)) lit columns) 0 (rows * columns) (now (out .entry)) ⌝ }
+fn draw(shapes: &[u8], rec: Record, memory: &[u8], lit: bool, size: Size, out: &mut [u8])
+    requires { ⌜ (Drawable (now shapes) rec (now memory)) × (fitsGlass size ≡ true)
+        × (pictureLength (rec .function) size ≤ length (now out)) ⌝ }
+    ensures { λ _.
+        let byte = pictureByte (now (shapes .entry)) rec (now (memory .entry)) lit size in
+        ⌜ now (out .exit) ≡ painted byte 0 (pictureLength (rec .function) size) (now (out .entry)) ⌝ }
 {
+    let function = rec.function;
+    let rows = size.lines as usize * rows_of(function);
     let mut at = 0;
     while at < rows {
-        draw_row(shapes, rec, memory, lit, columns, at, out);
+        draw_row(shapes, rec, memory, lit, size, at, out);
         at += 1;
     }
 }
 
 // Draws what the panel shows into the first lines x 8 x columns bytes of the output, or refuses and leaves the output as
 // it is.
-pub fn picture(
-    rec: Record,
-    memory: &[u8],
-    columns: u8,
-    lines: u8,
-    lit: bool,
-    out: &mut [u8],
-) -> Answer
-    ensures { λ r. ⌜ Pictured rec (now (memory .entry)) columns lines lit (now (out .entry)) r (now (out .exit)) ⌝ }
+pub fn picture(rec: Record, memory: &[u8], size: Size, lit: bool, out: &mut [u8]) -> Answer
+    ensures { λ r. ⌜ Pictured rec (now (memory .entry)) size lit (now (out .entry)) r (now (out .exit)) ⌝ }
 {
     if !is_sound(rec) {
         return Answer::Unsound;
@@ -181,15 +179,14 @@ pub fn picture(
     if !is_whole(memory) {
         return Answer::NotWhole;
     }
-    if !fits_glass(columns, lines) {
+    if !fits_glass(size) {
         return Answer::BadSize;
     }
     let function = rec.function;
-    let rows = lines as usize * rows_of(function);
-    if out.len() < rows * columns as usize {
+    if out.len() < picture_length(function, size) {
         return Answer::OutputShort;
     }
     let shapes = table();
-    draw(&shapes, rec, memory, lit, columns as usize, rows, out);
+    draw(&shapes, rec, memory, lit, size, out);
     Answer::Done
 }

@@ -3,7 +3,7 @@
 ghost use mathlib.Core.Path.{_≡_};
 ghost use Prim.Native.Nat.{_<_};
 ghost use lib.ListN.{length};
-ghost use Rattle.dots.specs.Font.{font, tableRow};
+ghost use Rattle.dots.specs.Font.{font, shapeRows, tableLength, tableRow};
 
 const FONT: [u8; 2048] = [
     // 00h to 1Fh: blank
@@ -2161,7 +2161,7 @@ pub fn table() -> [u8; 2048]
 
 // One row of a code's shape in a table of shapes.
 pub fn table_row(shapes: &[u8], code: u8, row: usize) -> u8
-    requires { ⌜ (length (now shapes) ≡ 2048) × (row < 8) ⌝ }
+    requires { ⌜ (length (now shapes) ≡ tableLength) × (row < shapeRows) ⌝ }
     ensures { λ r. ⌜ r ≡ tableRow (now (shapes .entry)) code row ⌝ }
 {
     let at = code as usize * 8 + row;

@@ -1,7 +1,7 @@
 // The size of a picture, and the display cell that each of its positions shows. Lines, rows and columns count from 0.
 ghost use mathlib.Core.Path.{_≡_};
 ghost use Prim.Native.Nat.{_≤_, _<_};
-ghost use Rattle.dots.specs.Geometry.{cellAt, cellIn, fitsGlass, height};
+ghost use Rattle.dots.specs.Geometry.{cellAt, cellIn, fitsGlass, height, isShown, isShownIn, pictureLength};
 use controller::Function;
 
 // What a position shows: a display cell, or nothing where its line is not driven.
@@ -10,17 +10,36 @@ pub enum Shown {
     Undriven,
 }
 
-pub fn fits_glass(columns: u8, lines: u8) -> bool
-    ensures { λ r. ⌜ r ≡ fitsGlass columns lines ⌝ }
-{
-    1 <= columns && (columns <= 40 && (1 <= lines && lines <= 2))
+// A panel's size: characters to a line, and lines.
+pub struct Size {
+    pub columns: u8,
+    pub lines: u8,
 }
+
+// The one place where a size is tested: columns 1 to 40, lines 1 or 2.
+pub fn fits_glass(size: Size) -> bool
+    ensures { λ r. ⌜ r ≡ fitsGlass size ⌝ }
+{
+    1 <= size.columns && (size.columns <= 40 && (1 <= size.lines && size.lines <= 2))
+}
+
+// No character is taller, and every picture has room in so many bytes: two lines of 40 columns.
+const TALLEST: usize = 8;
+
+pub const PICTURE_ROOM: usize = 2 * TALLEST * 40;
 
 // The rows of a character: eight, whatever N and F are.
 pub fn rows_of(function: Function) -> usize
     ensures { λ r. ⌜ r ≡ height function ⌝ }
 {
     8
+}
+
+// The bytes of a picture.
+pub fn picture_length(function: Function, size: Size) -> usize
+    ensures { λ r. ⌜ r ≡ pictureLength function size ⌝ }
+{
+    size.lines as usize * rows_of(function) * size.columns as usize
 }
 
 // The cell that a position shows, with so many lines driven and so many cells to a line.
@@ -43,4 +62,24 @@ pub fn cell_at(n: bool, shift: usize, line: usize, position: usize) -> Shown
         return cell_in(2, 40, shift, line, position);
     }
     cell_in(1, 80, shift, line, position)
+}
+
+// Whether a position shows this display cell, with so many lines of so many cells driven.
+fn is_shown_in(driven: u8, length: u8, shift: u8, size: Size, cell: u8) -> bool
+    requires { ⌜ (0 < length) × (length ≤ 80) ⌝ }
+    ensures { λ r. ⌜ r ≡ isShownIn driven length shift size cell ⌝ }
+{
+    let line = cell / length;
+    let column = (cell % length + (length - shift % length)) % length;
+    line < driven && (line < size.lines && column < size.columns)
+}
+
+// Whether a position of the glass shows this display cell.
+pub fn is_shown(n: bool, shift: u8, size: Size, cell: u8) -> bool
+    ensures { λ r. ⌜ r ≡ isShown n shift size cell ⌝ }
+{
+    if n {
+        return is_shown_in(2, 40, shift, size, cell);
+    }
+    is_shown_in(1, 80, shift, size, cell)
 }

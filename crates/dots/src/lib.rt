@@ -4,4 +4,7 @@ mod font;
 mod geometry;
 
 pub use draw::picture;
+pub use geometry::PICTURE_ROOM;
+pub use geometry::Size;
+pub use geometry::is_shown;
 pub use geometry::rows_of;

@@ -2,11 +2,11 @@
 -- that a byte of the bitmap is one place and the dots stand apart.
 -- Assumes nothing.
 use mathlib.Core.Bool.{cond}
-use mathlib.Core.List.{List, [], _∷_, _++_}
+use mathlib.Core.List.{List, _++_}
 use Prim.Native.Nat.{ℕ, _+_, _*_, _/_, _%_}
 use lib.Dec.{eqb}
-use Rattle.lines.specs.Digits.{newline}
-use Rattle.drawing.specs.declared.grid.Size.{Size}
+use Rattle.lines.specs.Text.{bytesOf}
+use Rattle.drawing.specs.declared.grid.Grid.{Grid}
 use Rattle.drawing.specs.Grid.{lastX, lastY, isLit}
 use Rattle.drawing.specs.Numbers.{fourDigits}
 
@@ -15,13 +15,13 @@ abbrev pub headLength : ℕ
 headLength = 13
 
 -- `P4`, the width and the height in pixels.
-unfoldable pub headFor : ℕ → ℕ → List ℕ
-headFor width height = 0x50 ∷ 0x34 ∷ newline ∷ (fourDigits width ++ (0x20 ∷ (fourDigits height ++ (newline ∷ []))))
+abbrev pub headFor : ℕ → ℕ → List ℕ
+headFor width height = bytesOf "P4\n" ++ (fourDigits width ++ (bytesOf " " ++ (fourDigits height ++ bytesOf "\n")))
 
 -- The head of a panel's bitmap.
-unfoldable pub bitmapHead : Size → List ℕ
-bitmapHead size = headFor ((lastX size + 1) * 8) ((lastY size + 1) * 8)
+abbrev pub bitmapHead : Grid → List ℕ
+bitmapHead grid = headFor ((lastX grid + 1) * 8) ((lastY grid + 1) * 8)
 
 -- Eight pixels: the place in this column of the grid, at this row of pixels.
-unfoldable pub pixelsAt : List ℕ → Size → ℕ → ℕ → ℕ
-pixelsAt dots size x y = cond (eqb (y % 8) 7) 0 (cond (isLit dots size x (y / 8)) 0b11111110 0)
+unfoldable pub pixelsAt : List ℕ → Grid → ℕ → ℕ → ℕ
+pixelsAt dots grid x y = cond (eqb (y % 8) 7) 0 (cond (isLit dots grid x (y / 8)) 0b11111110 0)

@@ -2,6 +2,7 @@
 -- Assumes nothing.
 use mathlib.Core.Bool.{Bool, cond}
 use mathlib.Core.List.{List, [], _∷_, _++_}
+use Prim.Native.Char.{code}
 use Prim.Native.Nat.{ℕ, _/_, _%_}
 use lib.ListN.{getD}
 use Rattle.controller.specs.declared.cells.Counter.{Counter}
@@ -9,80 +10,55 @@ use Rattle.controller.specs.declared.cells.Counter.the-variants.{Display, Patte
 use Rattle.controller.specs.declared.«record».Half.{Half}
 use Rattle.controller.specs.declared.«record».Half.the-variants.{Empty, InstructionWrite, DataWrite, StatusRead, DataRead}
 use Rattle.controller.specs.declared.«record».Record.{Record}
+use Rattle.controller.specs.Cells.{cellOf}
 use Rattle.lines.specs.Digits.{digit, newline}
 use Rattle.lines.specs.Line.{letterOf}
+use Rattle.lines.specs.Text.{bytesOf}
 use Rattle.drawing.specs.Numbers.{twoWide, fiveWide}
 
 -- The lines that N drives: `2` or `1`.
-unfoldable pub linesShown : Bool → ℕ
-linesShown n = cond n 0x32 0x31
+abbrev pub linesShown : Bool → ℕ
+linesShown n = cond n (code "2") (code "1")
 
 -- The display: `on` or `off`.
-unfoldable pub onOff : Bool → List ℕ
-onOff d = cond d (0x6F ∷ 0x6E ∷ 0x20 ∷ []) (0x6F ∷ 0x66 ∷ 0x66 ∷ [])
+abbrev pub onOff : Bool → List ℕ
+onOff d = cond d (bytesOf "on ") (bytesOf "off")
 
 -- The counter's memory: `display` or `pattern`.
-unfoldable pub memoryShown : Counter → List ℕ
-memoryShown (Display cell) = 0x64 ∷ 0x69 ∷ 0x73 ∷ 0x70 ∷ 0x6C ∷ 0x61 ∷ 0x79 ∷ []
-memoryShown (Pattern cell) = 0x70 ∷ 0x61 ∷ 0x74 ∷ 0x74 ∷ 0x65 ∷ 0x72 ∷ 0x6E ∷ []
-
--- The counter's cell.
-unfoldable pub cellOf : Counter → ℕ
-cellOf (Display cell) = cell
-cellOf (Pattern cell) = cell
+abbrev pub memoryShown : Counter → List ℕ
+memoryShown (Display cell) = bytesOf "display"
+memoryShown (Pattern cell) = bytesOf "pattern"
 
 -- A write's half: the letter of its kind, and its high four bits as they came over the bus, with 0h below.
-unfoldable pub writeShown : ℕ → ℕ → List ℕ
-writeShown letter high = letter ∷ 0x20 ∷ digit (high % 16) ∷ 0x30 ∷ []
+abbrev pub writeShown : ℕ → ℕ → List ℕ
+writeShown letter high = letter ∷ code " " ∷ digit (high % 16) ∷ code "0" ∷ []
 
 -- A read's half: the letter of its kind, and its whole byte.
-unfoldable pub readShown : ℕ → ℕ → List ℕ
-readShown letter byte = letter ∷ 0x20 ∷ digit (byte / 16) ∷ digit (byte % 16) ∷ []
+abbrev pub readShown : ℕ → ℕ → List ℕ
+readShown letter byte = letter ∷ code " " ∷ digit (byte / 16) ∷ digit (byte % 16) ∷ []
 
 -- The half that waits: `none`, or the letter that session lines have for its kind, and what it holds.
-unfoldable pub halfShown : Half → List ℕ
-halfShown Empty = 0x6E ∷ 0x6F ∷ 0x6E ∷ 0x65 ∷ []
+abbrev pub halfShown : Half → List ℕ
+halfShown Empty = bytesOf "none"
 halfShown (InstructionWrite high) = writeShown (letterOf 0) high
 halfShown (DataWrite high) = writeShown (letterOf 1) high
 halfShown (StatusRead byte) = readShown (letterOf 2) byte
 halfShown (DataRead byte) = readShown (letterOf 3) byte
 
--- `lines`, as it stands before its field.
-abbrev pub linesWord : List ℕ
-linesWord = 0x6C ∷ 0x69 ∷ 0x6E ∷ 0x65 ∷ 0x73 ∷ 0x20 ∷ []
-
--- `display`, as it stands before its field.
-abbrev pub displayWord : List ℕ
-displayWord = 0x20 ∷ 0x20 ∷ 0x64 ∷ 0x69 ∷ 0x73 ∷ 0x70 ∷ 0x6C ∷ 0x61 ∷ 0x79 ∷ 0x20 ∷ []
-
--- `counter`, as it stands before its field.
-abbrev pub counterWord : List ℕ
-counterWord = 0x20 ∷ 0x20 ∷ 0x63 ∷ 0x6F ∷ 0x75 ∷ 0x6E ∷ 0x74 ∷ 0x65 ∷ 0x72 ∷ 0x20 ∷ []
-
--- `shift`, as it stands before its field.
-abbrev pub shiftWord : List ℕ
-shiftWord = 0x20 ∷ 0x20 ∷ 0x73 ∷ 0x68 ∷ 0x69 ∷ 0x66 ∷ 0x74 ∷ 0x20 ∷ []
-
--- `busy`, as it stands before its field.
-abbrev pub busyWord : List ℕ
-busyWord = 0x20 ∷ 0x20 ∷ 0x62 ∷ 0x75 ∷ 0x73 ∷ 0x79 ∷ 0x20 ∷ []
-
--- `half`, as it stands before its field.
-abbrev pub halfWord : List ℕ
-halfWord = 0x20 ∷ 0x20 ∷ 0x68 ∷ 0x61 ∷ 0x6C ∷ 0x66 ∷ 0x20 ∷ []
-
 -- The lines and the display.
-unfoldable pub shownFields : Record → List ℕ
-shownFields rec = linesWord ++ (linesShown (rec .function .n) ∷ (displayWord ++ onOff (rec .control .d)))
+abbrev pub shownFields : Record → List ℕ
+shownFields rec = bytesOf "lines " ++ (linesShown (rec .function .n) ∷ (bytesOf "  display " ++ onOff (rec .control .d)))
 
 -- The counter: its memory and its cell.
-unfoldable pub counterField : Counter → List ℕ
-counterField counter = counterWord ++ (memoryShown counter ++ (0x20 ∷ twoWide (cellOf counter)))
+abbrev pub counterField : Counter → List ℕ
+counterField counter = bytesOf "  counter " ++ (memoryShown counter ++ (code " " ∷ twoWide (cellOf counter)))
 
 -- The shift, the busy time and the half that waits.
-unfoldable pub lastFields : Record → List ℕ
+abbrev pub lastFields : Record → List ℕ
 lastFields rec =
-    shiftWord ++ (twoWide (rec .shift) ++ (busyWord ++ (fiveWide (rec .busy) ++ (halfWord ++ (halfShown (rec .half) ++ (newline ∷ []))))))
+    bytesOf "  shift " ++ (twoWide (rec .shift)
+    ++ (bytesOf "  busy " ++ (fiveWide (rec .busy)
+    ++ (bytesOf "  half " ++ (halfShown (rec .half) ++ (newline ∷ []))))))
 
 -- The whole line.
 unfoldable pub stateLine : Record → List ℕ

@@ -4,7 +4,7 @@ ghost use mathlib.Core.Path.{_≡_};
 ghost use Prim.Native.Nat.{_≤_, _<_};
 ghost use Rattle.drawing.specs.Bitmap.{bitmapHead, headFor, pixelsAt};
 ghost use Rattle.drawing.specs.Grid.{Small};
-use crate::grid::Size;
+use crate::grid::Grid;
 use crate::grid::is_lit;
 use crate::grid::last_x;
 use crate::grid::last_y;
@@ -34,22 +34,22 @@ fn head_for(width: usize, height: usize) -> [u8; 13]
 }
 
 // The head of a panel's bitmap.
-pub fn bitmap_head(size: Size) -> [u8; 13]
-    requires { ⌜ Small size ⌝ }
-    ensures { λ r. ⌜ r ≡ bitmapHead size ⌝ }
+pub fn bitmap_head(grid: Grid) -> [u8; 13]
+    requires { ⌜ Small grid ⌝ }
+    ensures { λ r. ⌜ r ≡ bitmapHead grid ⌝ }
 {
-    head_for((last_x(size) + 1) * 8, (last_y(size) + 1) * 8)
+    head_for((last_x(grid) + 1) * 8, (last_y(grid) + 1) * 8)
 }
 
 // Eight pixels: the place in this column of the grid, at this row of pixels.
-pub fn pixels_at(dots: &[u8], size: Size, x: usize, y: usize) -> u8
-    requires { ⌜ (Small size) × (x ≤ 255) × (y ≤ 255) ⌝ }
-    ensures { λ r. ⌜ r ≡ pixelsAt (now (dots .entry)) size x y ⌝ }
+pub fn pixels_at(dots: &[u8], grid: Grid, x: usize, y: usize) -> u8
+    requires { ⌜ (Small grid) × (x ≤ 255) × (y ≤ 255) ⌝ }
+    ensures { λ r. ⌜ r ≡ pixelsAt (now (dots .entry)) grid x y ⌝ }
 {
     if y % 8 == 7 {
         return 0;
     }
-    if is_lit(dots, size, x, y / 8) {
+    if is_lit(dots, grid, x, y / 8) {
         return 0b1111_1110;
     }
     0

@@ -1,16 +1,15 @@
 // The three forms of a drawing, byte by byte, and the public call with its refusals.
-ghost use mathlib.Core.Bool.{true};
 ghost use mathlib.Core.Path.{_≡_};
 ghost use Prim.Native.Nat.{_≤_, _<_};
 ghost use lib.ListN.{length};
-ghost use Rattle.controller.specs.Record.{sound};
 ghost use Rattle.dots.specs.Picture.{painted};
-ghost use Rattle.drawing.specs.Drawing.{Drawn, bitmapByte, bitmapLength, DrawnTaken, drawnByte, cellsByte, frameLength, frameWidth, headByte, lengthOf, listingByte, textByte};
+ghost use Rattle.drawing.specs.Drawing.{Drawn, bitmapByte, bitmapLength, DrawnTaken, drawnByte, cellsByte, frameLength};
+ghost use Rattle.drawing.specs.Drawing.{frameWidth, headByte, lengthOf, listingByte, textByte};
 ghost use Rattle.drawing.specs.Grid.{Small};
 use crate::bitmap::bitmap_head;
 use crate::bitmap::pixels_at;
 use crate::frame::frame_at;
-use crate::grid::Size;
+use crate::grid::Grid;
 use crate::grid::byte_in;
 use crate::grid::last_x;
 use crate::grid::last_y;
@@ -20,6 +19,8 @@ use crate::state::state_byte;
 use controller::Answer;
 use controller::Record;
 use controller::is_done;
+use dots::PICTURE_ROOM;
+use dots::Size;
 use dots::picture;
 use dots::rows_of;
 use lines::Written;
@@ -46,86 +47,80 @@ pub enum Form {
 }
 
 // A line of the frame: the grid's columns, one more for its edge, and the end of the line.
-fn frame_width(size: Size) -> usize
-    requires { ⌜ Small size ⌝ }
-    ensures { λ r. ⌜ r ≡ frameWidth size ⌝ }
+fn frame_width(grid: Grid) -> usize
+    requires { ⌜ Small grid ⌝ }
+    ensures { λ r. ⌜ r ≡ frameWidth grid ⌝ }
 {
-    last_x(size) + 2
+    last_x(grid) + 2
 }
 
-fn frame_length(size: Size) -> usize
-    requires { ⌜ Small size ⌝ }
-    ensures { λ r. ⌜ r ≡ frameLength size ⌝ }
+fn frame_length(grid: Grid) -> usize
+    requires { ⌜ Small grid ⌝ }
+    ensures { λ r. ⌜ r ≡ frameLength grid ⌝ }
 {
-    frame_width(size) * (last_y(size) + 1)
+    frame_width(grid) * (last_y(grid) + 1)
 }
 
-fn bitmap_length(size: Size) -> usize
-    requires { ⌜ Small size ⌝ }
-    ensures { λ r. ⌜ r ≡ bitmapLength size ⌝ }
+fn bitmap_length(grid: Grid) -> usize
+    requires { ⌜ Small grid ⌝ }
+    ensures { λ r. ⌜ r ≡ bitmapLength grid ⌝ }
 {
-    HEAD + (last_x(size) + 1) * ((last_y(size) + 1) * 8)
+    HEAD + (last_x(grid) + 1) * ((last_y(grid) + 1) * 8)
 }
 
-fn length_of(form: Form, size: Size) -> usize
-    requires { ⌜ Small size ⌝ }
-    ensures { λ r. ⌜ r ≡ lengthOf form size ⌝ }
+fn length_of(form: Form, grid: Grid) -> usize
+    requires { ⌜ Small grid ⌝ }
+    ensures { λ r. ⌜ r ≡ lengthOf form grid ⌝ }
 {
     match form {
-        Form::Text => frame_length(size) + STATE,
-        Form::Bitmap => bitmap_length(size),
+        Form::Text => frame_length(grid) + STATE,
+        Form::Bitmap => bitmap_length(grid),
         Form::Cells => LEGEND + (LISTING + STATE),
     }
 }
 
 // The frame line by line, then the state.
-fn text_byte(dots: &[u8], rec: Record, size: Size, place: usize) -> u8
-    requires { ⌜ Small size ⌝ }
-    ensures { λ r. ⌜ r ≡ textByte (now (dots .entry)) rec size place ⌝ }
+fn text_byte(dots: &[u8], rec: Record, grid: Grid, place: usize) -> u8
+    requires { ⌜ Small grid ⌝ }
+    ensures { λ r. ⌜ r ≡ textByte (now (dots .entry)) rec grid place ⌝ }
 {
-    if place < frame_length(size) {
-        return frame_at(
-            dots,
-            size,
-            place % frame_width(size),
-            place / frame_width(size),
-        );
+    let length = frame_length(grid);
+    if place < length {
+        let width = frame_width(grid);
+        return frame_at(dots, grid, place % width, place / width);
     }
-    state_byte(rec, place - frame_length(size))
+    state_byte(rec, place - length)
 }
 
-fn head_byte(size: Size, place: usize) -> u8
-    requires { ⌜ Small size ⌝ }
-    ensures { λ r. ⌜ r ≡ headByte size place ⌝ }
+fn head_byte(grid: Grid, place: usize) -> u8
+    requires { ⌜ Small grid ⌝ }
+    ensures { λ r. ⌜ r ≡ headByte grid place ⌝ }
 {
-    let head = bitmap_head(size);
+    let head = bitmap_head(grid);
     byte_in(&head, place)
 }
 
 // The head, then the pixels row by row.
-fn bitmap_byte(dots: &[u8], size: Size, place: usize) -> u8
-    requires { ⌜ (Small size) × (place < bitmapLength size) ⌝ }
-    ensures { λ r. ⌜ r ≡ bitmapByte (now (dots .entry)) size place ⌝ }
+fn bitmap_byte(dots: &[u8], grid: Grid, place: usize) -> u8
+    requires { ⌜ (Small grid) × (place < bitmapLength grid) ⌝ }
+    ensures { λ r. ⌜ r ≡ bitmapByte (now (dots .entry)) grid place ⌝ }
 {
     if place < HEAD {
-        return head_byte(size, place);
+        return head_byte(grid, place);
     }
-    let width = last_x(size) + 1;
-    pixels_at(dots, size, (place - HEAD) % width, (place - HEAD) / width)
+    let width = last_x(grid) + 1;
+    pixels_at(dots, grid, (place - HEAD) % width, (place - HEAD) / width)
 }
 
 // The cells line by line, then the state.
 fn listing_byte(memory: &[u8], rec: Record, size: Size, place: usize) -> u8
-    requires { ⌜ rec .shift < 80 ⌝ }
     ensures { λ r. ⌜ r ≡ listingByte (now (memory .entry)) rec size place ⌝ }
 {
     if place < LISTING {
-        let n = rec.function.n;
-        let shift = rec.shift as usize;
         return listing_at(
             memory,
-            n,
-            shift,
+            rec.function.n,
+            rec.shift,
             size,
             place % LISTING_WIDTH,
             place / LISTING_WIDTH,
@@ -136,7 +131,6 @@ fn listing_byte(memory: &[u8], rec: Record, size: Size, place: usize) -> u8
 
 // The legend, then the listing.
 fn cells_byte(memory: &[u8], rec: Record, size: Size, place: usize) -> u8
-    requires { ⌜ rec .shift < 80 ⌝ }
     ensures { λ r. ⌜ r ≡ cellsByte (now (memory .entry)) rec size place ⌝ }
 {
     if place < LEGEND {
@@ -145,13 +139,14 @@ fn cells_byte(memory: &[u8], rec: Record, size: Size, place: usize) -> u8
     listing_byte(memory, rec, size, place - LEGEND)
 }
 
-fn drawn_byte(form: Form, dots: &[u8], memory: &[u8], rec: Record, size: Size, place: usize) -> u8
-    requires { ⌜ (Small size) × (rec .shift < 80) × (place < lengthOf form size) ⌝ }
-    ensures { λ r. ⌜ r ≡ drawnByte form (now (dots .entry)) (now (memory .entry)) rec size place ⌝ }
+fn drawn_byte(form: Form, dots: &[u8], memory: &[u8], rec: Record, grid: Grid, place: usize) -> u8
+    requires { ⌜ (Small grid) × (place < lengthOf form grid) ⌝ }
+    ensures { λ r. ⌜ r ≡ drawnByte form (now (dots .entry)) (now (memory .entry)) rec grid place ⌝ }
 {
+    let size = grid.size;
     match form {
-        Form::Text => text_byte(dots, rec, size, place),
-        Form::Bitmap => bitmap_byte(dots, size, place),
+        Form::Text => text_byte(dots, rec, grid, place),
+        Form::Bitmap => bitmap_byte(dots, grid, place),
         Form::Cells => cells_byte(memory, rec, size, place),
     }
 }
@@ -162,16 +157,18 @@ fn fill(
     dots: &[u8],
     memory: &[u8],
     rec: Record,
-    size: Size,
+    grid: Grid,
     count: usize,
     out: &mut [u8],
 )
-    requires { ⌜ (Small size) × (rec .shift < 80) × (count ≡ lengthOf form size) × (count ≤ length (now out)) ⌝ }
-    ensures { λ _. ⌜ now (out .exit) ≡ painted (drawnByte form (now (dots .entry)) (now (memory .entry)) rec size) 0 count (now (out .entry)) ⌝ }
+    requires { ⌜ (Small grid) × (count ≡ lengthOf form grid) × (count ≤ length (now out)) ⌝ }
+    ensures { λ _.
+        let byte = drawnByte form (now (dots .entry)) (now (memory .entry)) rec grid in
+        ⌜ now (out .exit) ≡ painted byte 0 count (now (out .entry)) ⌝ }
 {
     let mut place = 0;
     while place < count {
-        out[place] = drawn_byte(form, dots, memory, rec, size, place);
+        out[place] = drawn_byte(form, dots, memory, rec, grid, place);
         place += 1;
     }
 }
@@ -188,17 +185,17 @@ fn draw_taken(
     dots: &[u8],
     memory: &[u8],
     rec: Record,
-    size: Size,
+    grid: Grid,
     out: &mut [u8],
 ) -> Written
-    requires { ⌜ (Small size) × (rec .shift < 80) ⌝ }
-    ensures { λ r. ⌜ DrawnTaken form (now (dots .entry)) (now (memory .entry)) rec size (now (out .entry)) r (now (out .exit)) ⌝ }
+    requires { ⌜ (Small grid) ⌝ }
+    ensures { λ r. ⌜ DrawnTaken form (now (dots .entry)) (now (memory .entry)) rec grid (now (out .entry)) r (now (out .exit)) ⌝ }
 {
-    let length = length_of(form, size);
+    let length = length_of(form, grid);
     if out.len() < length {
         return refused(Answer::OutputShort);
     }
-    fill(form, dots, memory, rec, size, length, out);
+    fill(form, dots, memory, rec, grid, length, out);
     Written {
         answer: Answer::Done,
         length,
@@ -210,23 +207,21 @@ pub fn draw(
     form: Form,
     rec: Record,
     memory: &[u8],
-    columns: u8,
-    lines: u8,
+    size: Size,
     lit: bool,
     out: &mut [u8],
 ) -> Written
-    ensures { λ r. ⌜ Drawn form rec (now (memory .entry)) columns lines lit (now (out .entry)) r (now (out .exit)) ⌝ }
+    ensures { λ r. ⌜ Drawn form rec (now (memory .entry)) size lit (now (out .entry)) r (now (out .exit)) ⌝ }
 {
-    let mut dots = [0u8; 640];
-    let answer = picture(rec, memory, columns, lines, lit, &mut dots);
+    let mut dots = [0u8; PICTURE_ROOM];
+    let answer = picture(rec, memory, size, lit, &mut dots);
     if !is_done(answer) {
         return refused(answer);
     }
     let function = rec.function;
-    let size = Size {
-        columns: columns as usize,
-        lines: lines as usize,
+    let grid = Grid {
+        size,
         rows: rows_of(function),
     };
-    draw_taken(form, &dots, memory, rec, size, out)
+    draw_taken(form, &dots, memory, rec, grid, out)
 }

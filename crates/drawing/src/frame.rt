@@ -3,7 +3,7 @@ ghost use mathlib.Core.Path.{_≡_};
 ghost use Prim.Native.Nat.{_≤_};
 ghost use Rattle.drawing.specs.Grid.{Small};
 ghost use Rattle.drawing.specs.Frame.{border, dotChar, frameAt, isEnd};
-use crate::grid::Size;
+use crate::grid::Grid;
 use crate::grid::is_between;
 use crate::grid::is_lit;
 use crate::grid::last_x;
@@ -34,21 +34,22 @@ fn char_for(lit: bool) -> u8
 }
 
 // The byte of the text at a column and a row of it; past the last column is the end of the line.
-pub fn frame_at(dots: &[u8], size: Size, x: usize, y: usize) -> u8
-    requires { ⌜ (Small size) × (x ≤ 255) × (y ≤ 255) ⌝ }
-    ensures { λ r. ⌜ r ≡ frameAt (now (dots .entry)) size x y ⌝ }
+pub fn frame_at(dots: &[u8], grid: Grid, x: usize, y: usize) -> u8
+    requires { ⌜ (Small grid) × (x ≤ 255) × (y ≤ 255) ⌝ }
+    ensures { λ r. ⌜ r ≡ frameAt (now (dots .entry)) grid x y ⌝ }
 {
-    if x == last_x(size) + 1 {
+    let right = last_x(grid);
+    if x == right + 1 {
         return b'\n';
     }
-    if is_end(last_y(size), y) {
-        return border_for(is_end(last_x(size), x));
+    if is_end(last_y(grid), y) {
+        return border_for(is_end(right, x));
     }
-    if is_end(last_x(size), x) {
+    if is_end(right, x) {
         return b'|';
     }
-    if is_between(size, x, y) {
+    if is_between(grid, x, y) {
         return b' ';
     }
-    char_for(is_lit(dots, size, x, y))
+    char_for(is_lit(dots, grid, x, y))
 }

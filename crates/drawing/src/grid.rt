@@ -5,36 +5,36 @@ ghost use mathlib.Core.Path.{_≡_};
 ghost use Prim.Native.Nat.{_≤_};
 ghost use lib.ListN.{getD};
 ghost use Rattle.drawing.specs.Grid.{Small, byteOf, dotOf, isBetween, isLit, lastX, lastY};
+use dots::Size;
 
-// A panel's size: characters to a line, lines, and rows of dots to a character.
-pub struct Size {
-    pub columns: usize,
-    pub lines: usize,
+// What is drawn: the panel's size, and rows of dots to a character.
+pub struct Grid {
+    pub size: Size,
     pub rows: usize,
 }
 
 // The last column of the grid.
-pub fn last_x(size: Size) -> usize
-    requires { ⌜ Small size ⌝ }
-    ensures { λ r. ⌜ r ≡ lastX size ⌝ }
+pub fn last_x(grid: Grid) -> usize
+    requires { ⌜ Small grid ⌝ }
+    ensures { λ r. ⌜ r ≡ lastX grid ⌝ }
 {
-    size.columns * 6
+    grid.size.columns as usize * 6
 }
 
 // The last row of the grid.
-pub fn last_y(size: Size) -> usize
-    requires { ⌜ Small size ⌝ }
-    ensures { λ r. ⌜ r ≡ lastY size ⌝ }
+pub fn last_y(grid: Grid) -> usize
+    requires { ⌜ Small grid ⌝ }
+    ensures { λ r. ⌜ r ≡ lastY grid ⌝ }
 {
-    size.lines * (size.rows + 1)
+    grid.size.lines as usize * (grid.rows + 1)
 }
 
 // Whether a place stands between two characters or at an edge.
-pub fn is_between(size: Size, x: usize, y: usize) -> bool
-    requires { ⌜ Small size ⌝ }
-    ensures { λ r. ⌜ r ≡ isBetween size x y ⌝ }
+pub fn is_between(grid: Grid, x: usize, y: usize) -> bool
+    requires { ⌜ Small grid ⌝ }
+    ensures { λ r. ⌜ r ≡ isBetween grid x y ⌝ }
 {
-    x % 6 == 0 || y % (size.rows + 1) == 0
+    x % 6 == 0 || y % (grid.rows + 1) == 0
 }
 
 // One of the five dots of a byte, counted from the left from 1.
@@ -46,12 +46,12 @@ fn dot_of(byte: u8, dot: usize) -> bool
 }
 
 // The byte of the picture that holds the dot at a place: the empty rows above it are not counted.
-fn byte_of(size: Size, x: usize, y: usize) -> usize
-    requires { ⌜ (Small size) × (x ≤ 255) × (y ≤ 255) × (isBetween size x y ≡ false) ⌝ }
-    ensures { λ r. ⌜ r ≡ byteOf size x y ⌝ }
+fn byte_of(grid: Grid, x: usize, y: usize) -> usize
+    requires { ⌜ (Small grid) × (x ≤ 255) × (y ≤ 255) × (isBetween grid x y ≡ false) ⌝ }
+    ensures { λ r. ⌜ r ≡ byteOf grid x y ⌝ }
 {
-    let empty = y / (size.rows + 1) + 1;
-    (y - empty) * size.columns + x / 6
+    let empty = y / (grid.rows + 1) + 1;
+    (y - empty) * grid.size.columns as usize + x / 6
 }
 
 // The byte at a place of a slice, and 0 past its end.
@@ -65,12 +65,12 @@ pub fn byte_in(bytes: &[u8], place: usize) -> u8
 }
 
 // Whether the dot at a place is lit; between characters there is none.
-pub fn is_lit(dots: &[u8], size: Size, x: usize, y: usize) -> bool
-    requires { ⌜ (Small size) × (x ≤ 255) × (y ≤ 255) ⌝ }
-    ensures { λ r. ⌜ r ≡ isLit (now (dots .entry)) size x y ⌝ }
+pub fn is_lit(dots: &[u8], grid: Grid, x: usize, y: usize) -> bool
+    requires { ⌜ (Small grid) × (x ≤ 255) × (y ≤ 255) ⌝ }
+    ensures { λ r. ⌜ r ≡ isLit (now (dots .entry)) grid x y ⌝ }
 {
-    if is_between(size, x, y) {
+    if is_between(grid, x, y) {
         return false;
     }
-    dot_of(byte_in(dots, byte_of(size, x, y)), x % 6)
+    dot_of(byte_in(dots, byte_of(grid, x, y)), x % 6)
 }

@@ -1,38 +1,22 @@
-// All 144 cells as hexadecimal, sixteen to a line: the display cells, then the pattern cells. A display cell that no position of the
-// glass shows is marked `*`.
+// All 144 cells as hexadecimal, sixteen to a line: the display cells, then the pattern cells. A display cell that no position of
+// the glass shows is marked `*`.
 ghost use mathlib.Core.Path.{_≡_};
-ghost use Prim.Native.Nat.{_≤_, _<_};
+ghost use Prim.Native.Nat.{_≤_};
 ghost use lib.ListN.{getD};
-ghost use Rattle.drawing.specs.Listing.{cellField, cellChar, displayLabel, isOnGlass, isSpare, isWithin, labelFor, legend, listingAt, markFor, patternLabel};
-use crate::grid::Size;
+ghost use Rattle.drawing.specs.Listing.{cellField, cellChar, displayLabel, isSpare, labelFor, legend, listingAt, markFor};
+ghost use Rattle.drawing.specs.Listing.{patternLabel};
 use crate::grid::byte_in;
-use crate::numbers::digit_for;
 use crate::numbers::two_wide;
-use controller::line_length;
-
-// Whether a glass shows this display cell, where a line has so many cells.
-fn is_within(length: usize, shift: usize, size: Size, cell: usize) -> bool
-    requires { ⌜ (0 < length) × (shift < 80) × (cell < 80) ⌝ }
-    ensures { λ r. ⌜ r ≡ isWithin length shift size cell ⌝ }
-{
-    cell / length < size.lines && (cell + 80 - shift) % length < size.columns
-}
-
-// Whether a position of the glass shows this display cell.
-fn is_on_glass(n: bool, shift: usize, size: Size, cell: usize) -> bool
-    requires { ⌜ (shift < 80) × (cell < 80) ⌝ }
-    ensures { λ r. ⌜ r ≡ isOnGlass n shift size cell ⌝ }
-{
-    is_within(line_length(n) as usize, shift, size, cell)
-}
+use dots::Size;
+use dots::is_shown;
+use lines::hex_digit;
 
 // Whether the cell at this place of the memory is a display cell that the glass does not show.
-fn is_spare(n: bool, shift: usize, size: Size, place: usize) -> bool
-    requires { ⌜ shift < 80 ⌝ }
+fn is_spare(n: bool, shift: u8, size: Size, place: usize) -> bool
     ensures { λ r. ⌜ r ≡ isSpare n shift size place ⌝ }
 {
     if place < 80 {
-        return !is_on_glass(n, shift, size, place);
+        return !is_shown(n, shift, size, place as u8);
     }
     false
 }
@@ -104,22 +88,21 @@ fn cell_char(spare: bool, byte: u8, at: usize) -> u8
         return mark_for(spare);
     }
     if at == 2 {
-        return digit_for(byte / 16);
+        return hex_digit(byte / 16);
     }
-    digit_for(byte % 16)
+    hex_digit(byte % 16)
 }
 
 // A byte of a cell's four.
-fn cell_field(memory: &[u8], n: bool, shift: usize, size: Size, place: usize, at: usize) -> u8
-    requires { ⌜ shift < 80 ⌝ }
+fn cell_field(memory: &[u8], n: bool, shift: u8, size: Size, place: usize, at: usize) -> u8
     ensures { λ r. ⌜ r ≡ cellField (now (memory .entry)) n shift size place at ⌝ }
 {
     cell_char(is_spare(n, shift, size, place), byte_in(memory, place), at)
 }
 
 // The byte of the listing at a column of a line; past the last cell is the end of the line.
-pub fn listing_at(memory: &[u8], n: bool, shift: usize, size: Size, x: usize, line: usize) -> u8
-    requires { ⌜ (shift < 80) × (x ≤ 255) × (line ≤ 255) ⌝ }
+pub fn listing_at(memory: &[u8], n: bool, shift: u8, size: Size, x: usize, line: usize) -> u8
+    requires { ⌜ (x ≤ 255) × (line ≤ 255) ⌝ }
     ensures { λ r. ⌜ r ≡ listingAt (now (memory .entry)) n shift size x line ⌝ }
 {
     if x == 74 {

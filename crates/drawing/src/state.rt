@@ -2,15 +2,17 @@
 ghost use mathlib.Core.List.{_++_};
 ghost use mathlib.Core.Path.{_≡_};
 ghost use lib.ListN.{getD};
-ghost use Rattle.drawing.specs.State.{cellOf, counterField, halfShown, lastFields, linesShown, memoryShown, onOff, readShown, shownFields, stateByte, writeShown};
+ghost use Rattle.drawing.specs.State.{counterField, halfShown, lastFields, linesShown, memoryShown, onOff, readShown};
+ghost use Rattle.drawing.specs.State.{shownFields, stateByte, writeShown};
 use crate::grid::byte_in;
-use crate::numbers::digit_for;
 use crate::numbers::four_wide;
 use crate::numbers::padded_digit;
 use crate::numbers::two_wide;
 use controller::Counter;
 use controller::Half;
 use controller::Record;
+use controller::cell_of;
+use lines::hex_digit;
 
 // The display, `on` or `off`.
 fn on_off(d: bool) -> [u8; 3]
@@ -32,28 +34,18 @@ fn memory_shown(counter: Counter) -> [u8; 7]
     }
 }
 
-// The counter's cell.
-fn cell_of(counter: Counter) -> u8
-    ensures { λ r. ⌜ r ≡ cellOf counter ⌝ }
-{
-    match counter {
-        Counter::Display(cell) => cell,
-        Counter::Pattern(cell) => cell,
-    }
-}
-
 // A read's half: the letter of its kind, and its whole byte.
 fn read_shown(letter: u8, byte: u8) -> [u8; 4]
     ensures { λ r. ⌜ r ≡ readShown letter byte ⌝ }
 {
-    [letter, b' ', digit_for(byte / 16), digit_for(byte % 16)]
+    [letter, b' ', hex_digit(byte / 16), hex_digit(byte % 16)]
 }
 
 // A write's half: the letter of its kind, and its high four bits as they came over the bus, with 0h below.
 fn write_shown(letter: u8, high: u8) -> [u8; 4]
     ensures { λ r. ⌜ r ≡ writeShown letter high ⌝ }
 {
-    [letter, b' ', digit_for(high % 16), b'0']
+    [letter, b' ', hex_digit(high % 16), b'0']
 }
 
 // The half that waits.

@@ -1,32 +1,16 @@
 // Writes the shapes of the fixed table, sixteen beside each other under their codes, for a person to look at. Each block
 // is a picture: a line of sixteen characters, with the display on and no cursor.
 ghost use Prim.Native.Nat.{_+_, _≤_, _<_};
-use controller::Control;
-use controller::Counter;
-use controller::Entry;
-use controller::Function;
-use controller::Half;
 use controller::Record;
+use controller::after_reset;
 use libc::STDOUT_FILENO;
+use lines::hex_digit;
 
 // A record that shows the display cells from cell 0 on.
 fn shown() -> Record {
-    Record {
-        wide: true,
-        function: Function { n: false, f: false },
-        control: Control {
-            d: true,
-            c: false,
-            b: false,
-        },
-        entry: Entry { id: true, s: false },
-        shift: 0,
-        counter: Counter::Display(0),
-        reg: 0,
-        fresh: false,
-        busy: 0,
-        half: Half::Empty,
-    }
+    let mut rec = after_reset();
+    rec.control.d = true;
+    rec
 }
 
 // A memory whose first sixteen display cells hold sixteen codes from this one on.
@@ -42,15 +26,6 @@ fn codes_from(first: u8) -> [u8; 144]
         cell += 1;
     }
     memory
-}
-
-fn digit(n: u8) -> u8
-    requires { ⌜ n < 16 ⌝ }
-{
-    if n < 10 {
-        return b'0' + n;
-    }
-    b'A' - 10 + n
 }
 
 fn mark(bit: u8) -> u8 {
@@ -69,8 +44,8 @@ fn put_code(text: &mut [u8; 6107], at: usize, code: u8)
     text[at + 2] = b' ';
     text[at + 3] = b' ';
     text[at + 4] = b' ';
-    text[at + 5] = digit(code / 16);
-    text[at + 6] = digit(code % 16);
+    text[at + 5] = hex_digit(code / 16);
+    text[at + 6] = hex_digit(code);
 }
 
 // Two blanks and five dots, bit 4 leftmost.
@@ -127,7 +102,11 @@ fn put_block(text: &mut [u8; 6107], at: usize, first: u8)
 {
     let memory = codes_from(first);
     let mut picture = [0u8; 128];
-    dots::picture(shown(), &memory, 16, 1, false, &mut picture);
+    let size = dots::Size {
+        columns: 16,
+        lines: 1,
+    };
+    dots::picture(shown(), &memory, size, false, &mut picture);
     put_codes(text, at, first);
     put_rows(text, at + 113, &picture);
 }

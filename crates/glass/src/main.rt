@@ -2,11 +2,13 @@
 mod options;
 
 use controller::number;
+use dots::Size;
 use drawing::Form;
 use drawing::draw;
 use libc::STDERR_FILENO;
 use libc::STDIN_FILENO;
 use libc::STDOUT_FILENO;
+use lines::first;
 use lines::write_header;
 use lines::write_row;
 use options::Options;
@@ -40,14 +42,6 @@ fn place_for_words(form: Form) -> i32 {
     }
 }
 
-// The first bytes of a buffer, as many as this.
-fn write_first(place: i32, out: &[u8], length: usize) {
-    if out.len() < length {
-        return;
-    }
-    io::write_all(place, &out[..length]);
-}
-
 // The bad line that ended a session, as the session program tells it: the header, and its row.
 fn tell_bad_line(form: Form, number: u64, answer: u8, busy: u32) {
     let mut head = [0u8; 20];
@@ -56,7 +50,7 @@ fn tell_bad_line(form: Form, number: u64, answer: u8, busy: u32) {
     write_header(&mut head);
     let written = write_row(number, answer, 0, busy, &mut row);
     io::write_all(place, &head);
-    write_first(place, &row, written.length);
+    io::write_all(place, first(&row, written.length));
 }
 
 // Draws the panel in the lit phase; a size that no glass has is told with what is allowed.
@@ -65,21 +59,17 @@ fn show(options: Options, standing: Standing) {
     let form = options.form;
     let rec = standing.rec;
     let memory = standing.memory;
-    let drawn = draw(
-        form,
-        rec,
-        &memory,
-        options.columns,
-        options.lines,
-        true,
-        &mut out,
-    );
+    let size = Size {
+        columns: options.columns,
+        lines: options.lines,
+    };
+    let drawn = draw(form, rec, &memory, size, true, &mut out);
     let answer = drawn.answer;
     if number(answer) != 0 {
         tell_usage();
         return;
     }
-    write_first(STDOUT_FILENO, &out, drawn.length);
+    io::write_all(STDOUT_FILENO, first(&out, drawn.length));
 }
 
 // Plays a session, tells of a bad line, and draws what was played so far.

@@ -1,5 +1,4 @@
 // What is asked for on the command line: the panel's size, and the form of the drawing.
-ghost use Prim.Native.Nat.{_≤_};
 use check::same;
 use drawing::Form;
 

@@ -23,7 +23,8 @@ pub record Call : Type 0 where
 
 -- The call of a decision: the answer's number and 256 times the byte, the decided record, and the effect performed.
 abbrev pub callOf : Decision → List ℕ → Call
-callOf d mem = record { returned = numberOf (d .answer) + 256 * d .byte; rec = recordBytes (d .rec); memory = performed (d .effect) mem }
+callOf d mem =
+    record { returned = numberOf (d .answer) + 256 * d .byte; rec = recordBytes (d .rec); memory = performed (d .effect) mem }
 
 -- A refusal before anything is decided: the answer's number, and all as found.
 abbrev pub refusal : Answer → List ℕ → List ℕ → Call

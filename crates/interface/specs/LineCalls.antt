@@ -5,14 +5,13 @@ use mathlib.Core.List.{List}
 use Prim.Native.Nat.{ℕ, _+_, _*_}
 use lib.Dec.{ltb}
 use lib.ListN.{length}
-use Rattle.controller.specs.declared.answers.Answer.{Answer}
 use Rattle.controller.specs.declared.answers.Answer.the-variants.{OutputShort}
 use Rattle.controller.specs.Answers.{isDone, numberOf}
 use Rattle.lines.specs.declared.reader.Line.{Line}
 use Rattle.lines.specs.Reading.{lineOf}
 use Rattle.lines.specs.Writing.{Writing, lineWriting, onto}
 use Rattle.controller.specs.Sent.{sixBytes}
-use Rattle.interface.specs.Filling.{Filling}
+use Rattle.interface.specs.Filling.{Filling, declined}
 
 -- The call of a text that is written.
 abbrev pub fillingOf : Writing → List ℕ → Filling
@@ -25,10 +24,6 @@ writeCall kind byte wait out = fillingOf (lineWriting kind byte wait out) out
 -- The transfer of a line as six bytes: kind, byte, wait little-endian.
 abbrev pub sixOf : Line → List ℕ
 sixOf line = sixBytes (record { kind = line .kind; byte = line .byte; wait = line .wait })
-
--- A refusal writes nothing.
-abbrev pub declined : Answer → List ℕ → Filling
-declined answer out = record { returned = numberOf answer; buffer = out }
 
 -- A line that was read, the refusals in their order: 12, then 11. Six bytes are wanted.
 unfoldable pub stored : Line → List ℕ → Filling

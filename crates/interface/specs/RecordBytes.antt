@@ -10,30 +10,26 @@ use Rattle.controller.specs.declared.cells.Counter.the-variants.{Display, Patte
 use Rattle.controller.specs.declared.«record».Half.{Half}
 use Rattle.controller.specs.declared.«record».Half.the-variants.{Empty, InstructionWrite, DataWrite, StatusRead, DataRead}
 use Rattle.controller.specs.declared.«record».Record.{Record}
+use Rattle.controller.specs.Cells.{cellOf}
 use Rattle.controller.specs.Sent.{littleEndian, numberFrom}
 use Rattle.interface.specs.declared.record_bytes.ReadRecord.{ReadRecord}
 use Rattle.interface.specs.declared.record_bytes.ReadRecord.the-variants.{Is, Broken}
 
 -- The width, 8 or 4.
-unfoldable pub widthByte : Bool → ℕ
+abbrev pub widthByte : Bool → ℕ
 widthByte wide = cond wide 8 4
 
 -- A bit, 1 or 0.
-unfoldable pub bitByte : Bool → ℕ
+abbrev pub bitByte : Bool → ℕ
 bitByte bit = cond bit 1 0
 
 -- The counter's memory: 0 display, 1 pattern.
-unfoldable pub memoryByte : Counter → ℕ
+abbrev pub memoryByte : Counter → ℕ
 memoryByte (Display cell) = 0
 memoryByte (Pattern cell) = 1
 
--- The counter's cell.
-unfoldable pub cellByte : Counter → ℕ
-cellByte (Display cell) = cell
-cellByte (Pattern cell) = cell
-
 -- The half: 0 none, 1 instruction write, 2 data write, 3 status read, 4 data read.
-unfoldable pub halfByte : Half → ℕ
+abbrev pub halfByte : Half → ℕ
 halfByte Empty = 0
 halfByte (InstructionWrite high) = 1
 halfByte (DataWrite high) = 2
@@ -41,7 +37,7 @@ halfByte (StatusRead byte) = 3
 halfByte (DataRead byte) = 4
 
 -- The half's value, 0 where there is none.
-unfoldable pub valueByte : Half → ℕ
+abbrev pub valueByte : Half → ℕ
 valueByte Empty = 0
 valueByte (InstructionWrite high) = high
 valueByte (DataWrite high) = high
@@ -57,18 +53,18 @@ recordBytes rec =
     ∷ bitByte (rec .control .d) ∷ bitByte (rec .control .c) ∷ bitByte (rec .control .b)
     ∷ bitByte (rec .entry .id) ∷ bitByte (rec .entry .s)
     ∷ rec .shift
-    ∷ memoryByte (rec .counter) ∷ cellByte (rec .counter)
+    ∷ memoryByte (rec .counter) ∷ cellOf (rec .counter)
     ∷ rec .reg ∷ bitByte (rec .fresh)
     ∷ halfByte (rec .half) ∷ valueByte (rec .half)
     ∷ 0
     ∷ (littleEndian (rec .busy) ++ (0 ∷ 0 ∷ 0 ∷ 0 ∷ []))
 
 -- The counter of these two bytes.
-unfoldable pub counterFrom : ℕ → ℕ → Counter
+abbrev pub counterFrom : ℕ → ℕ → Counter
 counterFrom memory cell = cond (eqb memory 1) (Pattern cell) (Display cell)
 
 -- The half of these two bytes.
-unfoldable pub halfFrom : ℕ → ℕ → Half
+abbrev pub halfFrom : ℕ → ℕ → Half
 halfFrom half value =
     cond (eqb half 1) (InstructionWrite value)
     (cond (eqb half 2) (DataWrite value)
@@ -104,7 +100,7 @@ unfoldable pub recordAs : Record → List ℕ → ReadRecord
 recordAs rec bytes = cond (sameBytes bytes (recordBytes rec)) (Is rec) Broken
 
 -- The bytes are as many as a record has.
-unfoldable pub isRecordLong : List ℕ → Bool
+abbrev pub isRecordLong : List ℕ → Bool
 isRecordLong bytes = eqb (length bytes) 24
 
 -- What bytes say: the one record whose 24 bytes they are. Any other length or value is none.

@@ -25,9 +25,9 @@ use Rattle.interface.specs.declared.record_bytes.ReadRecord.the-variants
 use Rattle.interface.specs.declared.wish_bytes.ReadWish.{ReadWish}
 use Rattle.interface.specs.declared.wish_bytes.ReadWish.the-variants as ReadWish
 use Rattle.interface.specs.ControllerCalls.{Call, refusal, resetCall, transferCall}
-use Rattle.interface.specs.Filling.{Filling}
+use Rattle.interface.specs.Filling.{Filling, declined}
 use Rattle.interface.specs.LineCalls.{readCall, writeCall}
-use Rattle.interface.specs.PictureCalls.{pictureCall}
+use Rattle.interface.specs.PictureCalls.{pictureCall, sizeOf}
 use Rattle.interface.specs.PlanCalls.{planCall}
 use Rattle.interface.specs.RecordBytes.{recordBytes, isRecordLong, recordIn}
 use Rattle.interface.specs.WishBytes.{wishBytes, wishIn}
@@ -59,14 +59,15 @@ pub record Refuses (answer : Answer) (returned : ℕ) : Type 0 where
 
 -- A refused call that fills a buffer returns the bare number, and leaves the buffer as found.
 abbrev pub KeepsBuffer : Filling → List ℕ → Type 0
-KeepsBuffer call out = (answer : Answer) → Refuses answer (call .returned) → call ≡ record { returned = numberOf answer; buffer = out }
+KeepsBuffer call out = (answer : Answer) → Refuses answer (call .returned) → call ≡ declined answer out
 
--- A refused call over a record and a memory returns the bare number, and leaves the memory as found and these bytes of the record.
+-- A refused call over a record and a memory returns the bare number, and leaves the memory as found and these bytes of the
+-- record.
 abbrev pub KeepsMemory : Call → List ℕ → (Answer → List ℕ) → Type 0
 KeepsMemory call mem bytes = (answer : Answer) → Refuses answer (call .returned) → call ≡ refusal answer (bytes answer) mem
 
--- The record's bytes after a refused transfer: as found, but for two. 4 leaves there the record with only busy reduced, 6 with the
--- wait counted and the half gone.
+-- The record's bytes after a refused transfer: as found, but for two. 4 leaves there the record with only busy reduced, 6 with
+-- the wait counted and the half gone.
 unfoldable pub bytesLeft : ReadRecord → List ℕ → ℕ → Answer → List ℕ
 bytesLeft Broken bytes wait answer = bytes
 bytesLeft (Is rec) bytes wait answer =
@@ -75,8 +76,10 @@ bytesLeft (Is rec) bytes wait answer =
 -- What a refusal leaves, call by call.
 pub record CallRefusals : Type 0 where
   pub reset : (bytes mem : List ℕ) → KeepsMemory (resetCall bytes mem) mem (λ _. bytes)
-  pub transfer : (bytes mem : List ℕ) (kind byte wait : ℕ) → KeepsMemory (transferCall bytes mem kind byte wait) mem (bytesLeft (recordIn bytes) bytes wait)
-  pub picture : (bytes mem : List ℕ) (columns lines lit : ℕ) (out : List ℕ) → KeepsBuffer (pictureCall bytes mem columns lines lit out) out
+  pub transfer : (bytes mem : List ℕ) (kind byte wait : ℕ)
+      → KeepsMemory (transferCall bytes mem kind byte wait) mem (bytesLeft (recordIn bytes) bytes wait)
+  pub picture : (bytes mem : List ℕ) (columns lines lit : ℕ) (out : List ℕ)
+      → KeepsBuffer (pictureCall bytes mem columns lines lit out) out
   pub plan : (wish marks values out : List ℕ) → KeepsBuffer (planCall wish marks values out) out
   pub write-line : (kind byte wait : ℕ) (out : List ℕ) → KeepsBuffer (writeCall kind byte wait out) out
   pub read-line : (text out : List ℕ) → KeepsBuffer (readCall text out) out
@@ -107,7 +110,8 @@ planCallRows read marks values out =
     ∷ record { number = 11; applies = ltb (length out) wanted }
     ∷ []
 
--- `yaropesk_read_line` tells 12 exactly where no line stands at the start of the text, and else 11 where the output is below six bytes.
+-- `yaropesk_read_line` tells 12 exactly where no line stands at the start of the text, and else 11 where the output is below six
+-- bytes.
 abbrev pub ReadTells : ℕ → List ℕ → List ℕ → Type 0
 ReadTells returned text out =
     ((Starts text → ⊥) × (answerIn returned ≡ 12))
@@ -117,9 +121,12 @@ ReadTells returned text out =
 pub record CallAnswers : Type 0 where
   pub reset : (bytes mem : List ℕ) → Tells (resetCall bytes mem .returned) (resetCallRows bytes mem)
   pub transfer : (bytes mem : List ℕ) (kind byte wait : ℕ)
-      → Tells (transferCall bytes mem kind byte wait .returned) (recordRows (recordIn bytes) (λ rec. transferRows rec mem kind byte wait))
+      → Tells (transferCall bytes mem kind byte wait .returned)
+      (recordRows (recordIn bytes) (λ rec. transferRows rec mem kind byte wait))
   pub picture : (bytes mem : List ℕ) (columns lines lit : ℕ) (out : List ℕ)
-      → Tells (pictureCall bytes mem columns lines lit out .returned) (recordRows (recordIn bytes) (λ rec. pictureRows rec mem columns lines (length out)))
-  pub plan : (wish marks values out : List ℕ) → Tells (planCall wish marks values out .returned) (planCallRows (wishIn wish) marks values out)
+      → Tells (pictureCall bytes mem columns lines lit out .returned)
+      (recordRows (recordIn bytes) (λ rec. pictureRows rec mem (sizeOf columns lines) (length out)))
+  pub plan : (wish marks values out : List ℕ)
+      → Tells (planCall wish marks values out .returned) (planCallRows (wishIn wish) marks values out)
   pub write-line : (kind byte wait : ℕ) (out : List ℕ) → Tells (writeCall kind byte wait out .returned) (writerRows kind byte out)
   pub read-line : (text out : List ℕ) → ReadTells (readCall text out .returned) text out

@@ -20,7 +20,7 @@ wishBytes wish =
     ∷ 0 ∷ 0 ∷ 0 ∷ 0 ∷ 0 ∷ 0 ∷ 0 ∷ []
 
 -- The wish that 16 bytes say if they say one: a bit above 1 is read as 0.
-unfoldable pub wishFrom : List ℕ → Wish
+abbrev pub wishFrom : List ℕ → Wish
 wishFrom bytes =
     record {
       function = record { n = eqb (getD bytes 0 0) 1; f = eqb (getD bytes 1 0) 1 };

@@ -9,7 +9,9 @@ use crate::record_bytes::is_record_long;
 use crate::record_bytes::read_record;
 use crate::record_bytes::record_from;
 use crate::record_bytes::write_record;
+use crate::told::refused;
 use crate::told::returned;
+use controller::Answer;
 use controller::Outcome;
 use controller::Record;
 use controller::is_whole;
@@ -37,7 +39,9 @@ fn transfer_from(
     wait: u32,
 ) -> u32
     requires { ⌜ length (now bytes) ≡ 24 ⌝ }
-    ensures { λ r. ⌜ Leaves (callOf (decided rec (now (memory .entry)) kind byte wait) (now (memory .entry))) r (now (bytes .exit)) (now (memory .exit)) ⌝ }
+    ensures { λ r.
+        let call = callOf (decided rec (now (memory .entry)) kind byte wait) (now (memory .entry)) in
+        ⌜ Leaves call r (now (bytes .exit)) (now (memory .exit)) ⌝ }
 {
     let outcome = transfer(rec, memory, kind, byte, wait);
     leave(outcome, bytes)
@@ -52,11 +56,13 @@ pub extern "C" fn yaropesk_transfer(
     byte: u8,
     wait: u32,
 ) -> u32
-    ensures { λ r. ⌜ Leaves (transferCall (now (bytes .entry)) (now (memory .entry)) kind byte wait) r (now (bytes .exit)) (now (memory .exit)) ⌝ }
+    ensures { λ r.
+        let call = transferCall (now (bytes .entry)) (now (memory .entry)) kind byte wait in
+        ⌜ Leaves call r (now (bytes .exit)) (now (memory .exit)) ⌝ }
 {
     let read = read_record(bytes);
     match read {
-        ReadRecord::Broken => 1,
+        ReadRecord::Broken => refused(Answer::Unsound),
         ReadRecord::Is(rec) => transfer_from(rec, bytes, memory, kind, byte, wait),
     }
 }
@@ -64,7 +70,9 @@ pub extern "C" fn yaropesk_transfer(
 // A reset over 24 bytes, whatever they say.
 fn reset_from(bytes: &mut [u8], memory: &mut [u8]) -> u32
     requires { ⌜ length (now bytes) ≡ 24 ⌝ }
-    ensures { λ r. ⌜ Leaves (callOf (resetDecided (recordFrom (now (bytes .entry))) (now (memory .entry))) (now (memory .entry))) r (now (bytes .exit)) (now (memory .exit)) ⌝ }
+    ensures { λ r.
+        let call = callOf (resetDecided (recordFrom (now (bytes .entry))) (now (memory .entry))) (now (memory .entry)) in
+        ⌜ Leaves call r (now (bytes .exit)) (now (memory .exit)) ⌝ }
 {
     let outcome = reset(record_from(bytes), memory);
     leave(outcome, bytes)
@@ -76,10 +84,10 @@ pub extern "C" fn yaropesk_reset(bytes: &mut [u8], memory: &mut [u8]) -> u32
     ensures { λ r. ⌜ Leaves (resetCall (now (bytes .entry)) (now (memory .entry))) r (now (bytes .exit)) (now (memory .exit)) ⌝ }
 {
     if !is_record_long(bytes) {
-        return 1;
+        return refused(Answer::Unsound);
     }
     if !is_whole(memory) {
-        return 2;
+        return refused(Answer::NotWhole);
     }
     reset_from(bytes, memory)
 }

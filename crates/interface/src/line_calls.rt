@@ -6,9 +6,11 @@ ghost use Rattle.lines.specs.Writing.{onto};
 ghost use Rattle.interface.specs.Filling.{Fills};
 ghost use Rattle.interface.specs.LineCalls.{readCall, sixOf, stored, writeCall};
 use crate::told::counted;
-use crate::told::returned;
+use crate::told::refused;
 use controller::Answer;
+use controller::Sent;
 use controller::is_done;
+use controller::six_bytes;
 use lines::Line;
 use lines::read_line;
 use lines::write_line;
@@ -28,12 +30,12 @@ fn put_transfer(line: Line, out: &mut [u8])
     requires { ⌜ 6 ≤ length (now out) ⌝ }
     ensures { λ _. ⌜ now (out .exit) ≡ onto (sixOf line) (now (out .entry)) ⌝ }
 {
-    out[0] = line.kind;
-    out[1] = line.byte;
-    out[2] = (line.wait % 256) as u8;
-    out[3] = (line.wait / 256 % 256) as u8;
-    out[4] = (line.wait / 65536 % 256) as u8;
-    out[5] = (line.wait / 16777216 % 256) as u8;
+    let six = six_bytes(Sent {
+        kind: line.kind,
+        byte: line.byte,
+        wait: line.wait,
+    });
+    bytes::copy(&six, out);
 }
 
 // The transfer of a line that was read.
@@ -43,10 +45,10 @@ fn store_line(line: Line, out: &mut [u8]) -> u32
 {
     let answer = line.answer;
     if !is_done(answer) {
-        return returned(answer, 0);
+        return refused(answer);
     }
     if out.len() < 6 {
-        return returned(Answer::OutputShort, 0);
+        return refused(Answer::OutputShort);
     }
     put_transfer(line, out);
     counted(answer, line.length)

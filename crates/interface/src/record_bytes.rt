@@ -1,15 +1,17 @@
 // A controller's record as 24 bytes.
 ghost use mathlib.Core.Path.{_≡_};
-ghost use Prim.Native.Nat.{_+_, _*_};
 ghost use lib.ListN.{length};
-ghost use Rattle.controller.specs.Sent.{numberFrom};
-ghost use Rattle.interface.specs.RecordBytes.{bitByte, cellByte, counterFrom, halfByte, halfFrom, isRecordLong, memoryByte, recordBytes, recordFrom, recordAs, recordIn, valueByte, widthByte};
+ghost use Rattle.interface.specs.RecordBytes.{bitByte, counterFrom, halfByte, halfFrom, isRecordLong, memoryByte};
+ghost use Rattle.interface.specs.RecordBytes.{recordBytes, recordFrom, recordAs, recordIn, valueByte, widthByte};
 use controller::Control;
 use controller::Counter;
 use controller::Entry;
 use controller::Function;
 use controller::Half;
 use controller::Record;
+use controller::cell_of;
+use controller::little_endian;
+use controller::number_from;
 
 // What bytes say: a record, or none.
 pub enum ReadRecord {
@@ -44,15 +46,6 @@ fn memory_byte(counter: Counter) -> u8
     }
 }
 
-fn cell_byte(counter: Counter) -> u8
-    ensures { λ r. ⌜ r ≡ cellByte counter ⌝ }
-{
-    match counter {
-        Counter::Display(cell) => cell,
-        Counter::Pattern(cell) => cell,
-    }
-}
-
 fn half_byte(half: Half) -> u8
     ensures { λ r. ⌜ r ≡ halfByte half ⌝ }
 {
@@ -83,7 +76,7 @@ fn bytes_of(rec: Record) -> [u8; 24]
 {
     let counter = rec.counter;
     let half = rec.half;
-    let busy = rec.busy;
+    let busy = little_endian(rec.busy);
     [
         width_byte(rec.wide),
         bit_byte(rec.function.n),
@@ -95,16 +88,16 @@ fn bytes_of(rec: Record) -> [u8; 24]
         bit_byte(rec.entry.s),
         rec.shift,
         memory_byte(counter),
-        cell_byte(counter),
+        cell_of(counter),
         rec.reg,
         bit_byte(rec.fresh),
         half_byte(half),
         value_byte(half),
         0,
-        (busy % 256) as u8,
-        (busy / 256 % 256) as u8,
-        (busy / 65536 % 256) as u8,
-        (busy / 16777216 % 256) as u8,
+        busy[0],
+        busy[1],
+        busy[2],
+        busy[3],
         0,
         0,
         0,
@@ -137,13 +130,6 @@ fn half_from(half: u8, value: u8) -> Half
         return Half::DataRead(value);
     }
     Half::Empty
-}
-
-// Four bytes, little-endian.
-fn number_from(first: u8, second: u8, third: u8, fourth: u8) -> u32
-    ensures { λ r. ⌜ r ≡ numberFrom first second third fourth ⌝ }
-{
-    first as u32 + second as u32 * 256 + third as u32 * 65536 + fourth as u32 * 16777216
 }
 
 // The record that 24 bytes say if they say one: a byte that a record cannot have is read as one that it can.

@@ -5,6 +5,13 @@ ghost use Rattle.controller.specs.Answers.{numberOf};
 use controller::Answer;
 use controller::number;
 
+// A refusal tells its number alone.
+pub fn refused(answer: Answer) -> u32
+    ensures { λ r. ⌜ r ≡ numberOf answer ⌝ }
+{
+    number(answer) as u32
+}
+
 pub fn returned(answer: Answer, byte: u8) -> u32
     ensures { λ r. ⌜ r ≡ numberOf answer + 256 * byte ⌝ }
 {

@@ -2,26 +2,28 @@
 -- Assumes nothing.
 use mathlib.Core.Bool.{Bool, cond, _&&_}
 use mathlib.Core.List.{List, [], _∷_, _++_}
+use Prim.Native.Char.{code}
 use Prim.Native.Nat.{ℕ, zero, suc, _+_, _-_, _/_, _%_}
 use lib.Dec.{ltb, leb}
 
 -- The tab that parts two fields.
 abbrev pub tab : ℕ
-tab = 0x09
+tab = code "\t"
 
 -- The newline that ends a line.
 abbrev pub newline : ℕ
-newline = 0x0A
+newline = code "\n"
 
--- The digit that is worth this much: `0` to `9`, then `A` to `F`.
+-- The last hex digit of a number: `0` to `9`, then `A` to `F`. Of a number below ten it is its one digit.
 unfoldable pub digit : ℕ → ℕ
-digit worth = cond (ltb worth 10) (0x30 + worth) (0x37 + worth)
+digit number = cond (ltb (number % 16) 10) (0x30 + number % 16) (0x37 + number % 16)
 
 -- The byte is one of these two or stands between them.
 abbrev pub between : ℕ → ℕ → ℕ → Bool
 between first last byte = leb first byte && leb byte last
 
--- What a byte is worth as an upper-case hex digit: `0` to `9` are 0 to 9, `A` to `F` 10 to 15, and any other byte, lower case too, 16.
+-- What a byte is worth as an upper-case hex digit: `0` to `9` are 0 to 9, `A` to `F` 10 to 15, and any other byte, lower case
+-- too, 16.
 unfoldable pub worthOf : ℕ → ℕ
 worthOf byte = cond (between 0x30 0x39 byte) (byte - 0x30) (cond (between 0x41 0x46 byte) (byte - 0x37) 16)
 
@@ -38,6 +40,10 @@ decimal number = spelled (suc number) number
 unfoldable pub numberField : ℕ → ℕ → List ℕ
 numberField number end = decimal number ++ (end ∷ [])
 
+-- A byte as two upper-case hex digits.
+abbrev pub hexPair : ℕ → List ℕ
+hexPair byte = digit (byte / 16) ∷ digit (byte % 16) ∷ []
+
 -- A field: a byte as two upper-case hex digits, and a tab.
 unfoldable pub byteField : ℕ → List ℕ
-byteField byte = digit (byte / 16) ∷ digit (byte % 16) ∷ tab ∷ []
+byteField byte = hexPair byte ++ (tab ∷ [])

@@ -9,6 +9,7 @@ use Prim.Native.Nat.{ℕ, _<_, _≤_}
 use lib.Dec.{ltb}
 use lib.ListN.{length, take}
 use Rattle.controller.specs.declared.answers.Answer.the-variants.{Done}
+use Rattle.controller.specs.declared.sent.Sent.{Sent}
 use Rattle.controller.specs.Bus.{badTransfer}
 use Rattle.controller.specs.Answers.{numberOf, Row, Given}
 use Rattle.lines.specs.declared.reader.Line.{Line}
@@ -22,6 +23,11 @@ pub record Sayable (kind byte wait : ℕ) : Type 0 where
   pub transfer : badTransfer kind byte ≡ false
   pub is-byte : byte < 256
   pub is-wait : wait ≤ waitLimit
+
+-- Each of these transfers can be said by a line.
+unfoldable pub AllSayable : List Sent → Type 0
+AllSayable [] = Unit {0}
+AllSayable (t ∷ ts) = Sayable (t .kind) (t .byte) (t .wait) × AllSayable ts
 
 -- A text starts with the line of a transfer, and any text is after it.
 pub record Starts (text : List ℕ) : Type 0 where
@@ -38,7 +44,8 @@ lineRead kind byte wait = record { answer = Done; kind = kind; byte = byte; wait
 
 -- What was written reads back as the same transfer, with any text after it.
 abbrev pub WrittenReadsBack : Type 0
-WrittenReadsBack = (kind byte wait : ℕ) (more : List ℕ) → Sayable kind byte wait → lineOf (line kind byte wait ++ more) ≡ lineRead kind byte wait
+WrittenReadsBack =
+    (kind byte wait : ℕ) (more : List ℕ) → Sayable kind byte wait → lineOf (line kind byte wait ++ more) ≡ lineRead kind byte wait
 
 -- So a buffer into which a line was written reads back as the same transfer, whatever stands after the line.
 abbrev pub BufferReadsBack : Type 0
@@ -77,7 +84,9 @@ writerRows kind byte out =
 
 -- Each number is given exactly where its row applies and none before it in the order.
 abbrev pub WriterAnswers : Type 0
-WriterAnswers = (kind byte wait : ℕ) (out : List ℕ) (n : ℕ) → (numberOf (lineWriting kind byte wait out .answer) ≡ n) ↔ Given n (writerRows kind byte out)
+WriterAnswers =
+    (kind byte wait : ℕ) (out : List ℕ) (n : ℕ)
+    → (numberOf (lineWriting kind byte wait out .answer) ≡ n) ↔ Given n (writerRows kind byte out)
 
 -- The row of a call for which the buffer must have this size: 11.
 unfoldable pub wantingRows : ℕ → List ℕ → List Row
@@ -85,7 +94,8 @@ wantingRows size out = record { number = 11; applies = ltb (length out) size } �
 
 -- A call that writes a report's row or header gives 11 exactly where the buffer is shorter than wanted.
 abbrev pub TextAnswers : Type 0
-TextAnswers = (size : ℕ) (text out : List ℕ) (n : ℕ) → (numberOf (wanting size text out .answer) ≡ n) ↔ Given n (wantingRows size out)
+TextAnswers =
+    (size : ℕ) (text out : List ℕ) (n : ℕ) → (numberOf (wanting size text out .answer) ≡ n) ↔ Given n (wantingRows size out)
 
 -- A line is at most 16 bytes, so that the buffer that the writer wants takes it.
 abbrev pub LinesFit : Type 0

@@ -1,18 +1,16 @@
 // Digits and letters, each way.
 ghost use mathlib.Core.Path.{_≡_};
-ghost use Prim.Native.Nat.{_<_};
 ghost use Rattle.lines.specs.Digits.{digit, worthOf};
 ghost use Rattle.lines.specs.Line.{kindOf, letterOf};
 
-// The digit that is worth this much, `0` to `9` and `A` to `F`.
-pub fn digit_for(worth: u8) -> u8
-    requires { ⌜ worth < 16 ⌝ }
-    ensures { λ r. ⌜ r ≡ digit worth ⌝ }
+// The last hex digit of a number: `0` to `9`, or `A` to `F`.
+pub fn hex_digit(number: u8) -> u8
+    ensures { λ r. ⌜ r ≡ digit number ⌝ }
 {
-    if worth < 10 {
-        return 0x30 + worth;
+    if number % 16 < 10 {
+        return 0x30 + number % 16;
     }
-    0x37 + worth
+    0x37 + number % 16
 }
 
 // What a byte is worth as an upper-case hex digit, and 16 where it is none.

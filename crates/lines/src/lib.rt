@@ -1,11 +1,20 @@
-// Session lines and the rows of a report, read and written as text. Document 01, "Session lines".
+// Session lines and the rows of a report, read and written as text; digits, and text put into a lent buffer. Document 01,
+// "Session lines".
 mod digits;
 mod fields;
 mod reader;
+mod text;
 mod writer;
 
+pub use digits::hex_digit;
+pub use digits::worth_of;
 pub use reader::Line;
 pub use reader::read_line;
+pub use text::first;
+pub use text::put_byte;
+pub use text::put_hex;
+pub use text::put_number;
+pub use text::put_text;
 pub use writer::Written;
 pub use writer::write_header;
 pub use writer::write_line;

@@ -6,9 +6,10 @@ ghost use lib.Seq.{sets};
 ghost use Rattle.lines.specs.Line.{line};
 ghost use Rattle.lines.specs.ReportText.{header, row, rowSize};
 ghost use Rattle.lines.specs.Writing.{Writes, lineWriting, wanting};
-use crate::fields::put_byte;
-use crate::fields::put_kind;
-use crate::fields::put_number;
+use crate::fields::put_byte_field;
+use crate::fields::put_kind_field;
+use crate::fields::put_number_field;
+use crate::text::put_text;
 use controller::Answer;
 use controller::is_bad;
 
@@ -22,19 +23,20 @@ fn put_line(kind: u8, byte: u8, wait: u32, out: &mut [u8]) -> usize
     requires { ⌜ 16 ≤ length (now out) ⌝ }
     ensures { λ r. ⌜ (r ≡ length (line kind byte wait)) × (now (out .exit) ≡ sets (now (out .entry)) 0 (line kind byte wait)) ⌝ }
 {
-    let second = put_kind(kind, out, 0);
-    let third = put_byte(byte, out, second);
-    put_number(wait as u64, b'\n', out, third)
+    let second = put_kind_field(kind, out, 0);
+    let third = put_byte_field(byte, out, second);
+    put_number_field(wait as u64, b'\n', out, third)
 }
 
 fn put_row(number: u64, answer: u8, byte: u8, busy: u32, out: &mut [u8]) -> usize
     requires { ⌜ rowSize ≤ length (now out) ⌝ }
-    ensures { λ r. ⌜ (r ≡ length (row number answer byte busy)) × (now (out .exit) ≡ sets (now (out .entry)) 0 (row number answer byte busy)) ⌝ }
+    ensures { λ r. ⌜ (r ≡ length (row number answer byte busy))
+        × (now (out .exit) ≡ sets (now (out .entry)) 0 (row number answer byte busy)) ⌝ }
 {
-    let second = put_number(number, b'\t', out, 0);
-    let third = put_number(answer as u64, b'\t', out, second);
-    let fourth = put_byte(byte, out, third);
-    put_number(busy as u64, b'\n', out, fourth)
+    let second = put_number_field(number, b'\t', out, 0);
+    let third = put_number_field(answer as u64, b'\t', out, second);
+    let fourth = put_byte_field(byte, out, third);
+    put_number_field(busy as u64, b'\n', out, fourth)
 }
 
 // The line of a transfer, into a buffer of at least 16 bytes.
@@ -62,7 +64,8 @@ pub fn write_line(kind: u8, byte: u8, wait: u32, out: &mut [u8]) -> Written
 
 // A report's row, into a buffer of at least 42 bytes.
 pub fn write_row(number: u64, answer: u8, byte: u8, busy: u32, out: &mut [u8]) -> Written
-    ensures { λ r. ⌜ Writes (wanting rowSize (row number answer byte busy) (now (out .entry))) (now (out .entry)) r (now (out .exit)) ⌝ }
+    ensures { λ r. ⌜ Writes (wanting rowSize (row number answer byte busy) (now (out .entry)))
+        (now (out .entry)) r (now (out .exit)) ⌝ }
 {
     if out.len() < 42 {
         return Written {
@@ -87,14 +90,9 @@ pub fn write_header(out: &mut [u8]) -> Written
             length: 0,
         };
     }
-    let text = b"no\tanswer\tbyte\tbusy\n";
-    let mut at = 0;
-    while at < 20 {
-        out[at] = text[at];
-        at += 1;
-    }
+    let length = put_text(out, 0, b"no\tanswer\tbyte\tbusy\n");
     Written {
         answer: Answer::Done,
-        length: 20,
+        length,
     }
 }

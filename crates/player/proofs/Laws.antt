@@ -1,4 +1,2 @@
 pub mod Session
-pub mod Going
-pub mod Whole
-pub mod Through
+pub mod Walk

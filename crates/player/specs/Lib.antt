@@ -1,5 +1,5 @@
 pub mod Session
 pub mod Report
-pub mod Playing
 pub mod Standing
+pub mod Walk
 pub mod Theorems

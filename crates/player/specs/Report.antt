@@ -12,10 +12,14 @@ use Rattle.lines.specs.ReportText.{header, row}
 use Rattle.lines.specs.Writing.{Writing, wanting}
 use Rattle.player.specs.Session.{Session, sessionOf}
 
+-- The row of a line: its number, and what its transfer tells.
+abbrev pub rowAt : ℕ → Heard → List ℕ
+rowAt number told = row number (told .answer) (told .byte) (told .busy)
+
 -- A row for each transfer, numbered from here on.
 unfoldable pub rowsFrom : ℕ → List Heard → List ℕ
 rowsFrom number [] = []
-rowsFrom number (t ∷ ts) = row number (t .answer) (t .byte) (t .busy) ++ rowsFrom (number + 1) ts
+rowsFrom number (t ∷ ts) = rowAt number t ++ rowsFrom (number + 1) ts
 
 -- A bad line prints its number, its answer, byte 00 and the busy as it stands; the end of the text prints nothing.
 unfoldable pub lastRow : Answer → ℕ → ℕ → List ℕ

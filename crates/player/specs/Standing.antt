@@ -8,7 +8,7 @@ use Rattle.player.specs.declared.through.Standing.{Standing}
 use Rattle.player.specs.Session.{Session, sessionOf}
 use Rattle.player.specs.Report.{start}
 
--- How a session leaves this controller: how it ends, its lines counted from this number on, and the controller after its transfers.
+-- How a session leaves this controller: how it ends, its lines counted from here on, and the controller after its transfers.
 unfoldable pub leaving : ℕ → State → Session → Standing
 leaving number state session =
     record {

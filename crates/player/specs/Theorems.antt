@@ -13,24 +13,14 @@ use Rattle.controller.specs.Record.{sound}
 use Rattle.controller.specs.declared.sent.Sent.{Sent}
 use Rattle.controller.specs.Runs.{heard}
 use Rattle.lines.specs.declared.writer.Written.{Written}
-use Rattle.lines.specs.Line.{line}
+use Rattle.lines.specs.Line.{linesOf}
 use Rattle.lines.specs.ReportText.{header}
-use Rattle.lines.specs.Theorems.{Sayable}
+use Rattle.lines.specs.Theorems.{AllSayable}
 use Rattle.lines.specs.Writing.{Writes}
 use Rattle.player.specs.declared.through.Standing.{Standing}
 use Rattle.player.specs.Session.{sessionOf}
 use Rattle.player.specs.Report.{rowsFrom, start, report, reportSize, playing}
 use Rattle.player.specs.Standing.{standing}
-
--- The lines of these transfers, one after the other.
-unfoldable pub linesOf : List Sent → List ℕ
-linesOf [] = []
-linesOf (t ∷ ts) = line (t .kind) (t .byte) (t .wait) ++ linesOf ts
-
--- Each of these transfers can be said by a line.
-unfoldable pub AllSayable : List Sent → Type 0
-AllSayable [] = Unit {0}
-AllSayable (t ∷ ts) = Sayable (t .kind) (t .byte) (t .wait) × AllSayable ts
 
 -- The lines of transfers are read as those transfers, and then what is after them.
 abbrev pub SessionReadsBack : Type 0
@@ -61,12 +51,14 @@ PlayAnswers = (text out : List ℕ) (n : ℕ) → (numberOf (playing text out .a
 -- No second answer fits.
 abbrev pub OnePlay : Type 0
 OnePlay =
-    (text out : List ℕ) (a b : Written) (x y : List ℕ) → Writes (playing text out) out a x → Writes (playing text out) out b y → (a ≡ b) × (x ≡ y)
+    (text out : List ℕ) (a b : Written) (x y : List ℕ)
+    → Writes (playing text out) out a x → Writes (playing text out) out b y → (a ≡ b) × (x ≡ y)
 
 -- And two standings that both are what play_through promises are one.
 abbrev pub OneStanding : Type 0
 OneStanding = (text : List ℕ) (a b : Standing) → a ≡ standing text → b ≡ standing text → a ≡ b
 
--- Every text leaves a sound record and a memory of 144 bytes, so that no picture of it and no transfer after it is answered 1 or 2.
+-- Every text leaves a sound record and a memory of 144 bytes, so that no picture of it and no transfer after it is answered 1
+-- or 2.
 abbrev pub StandingTold : Type 0
 StandingTold = (text : List ℕ) → (sound (standing text .rec) ≡ true) × (length (standing text .memory) ≡ 144)

@@ -1,13 +1,12 @@
-// Playing a session through without a report: each line is read and its transfer sent, in one pass over the text.
+// Playing a session through without a report, to see how it leaves the bench.
 ghost use mathlib.Core.Path.{_≡_};
 ghost use Rattle.player.specs.Standing.{standing};
-use crate::session::any_record;
+use crate::walk::Place;
+use crate::walk::walk;
 use controller::Answer;
 use controller::Record;
-use controller::is_done;
+use controller::after_reset;
 use controller::reset;
-use controller::transfer;
-use lines::read_line;
 
 // How a text leaves the bench: done or the answer of its bad line, the number of the line that would be played next (the bad
 // one's), the record and the memory.
@@ -23,30 +22,20 @@ pub fn play_through(text: &[u8]) -> Standing
     ensures { λ r. ⌜ r ≡ standing (now (text .entry)) ⌝ }
 {
     let mut memory = [0u8; 144];
-    let begun = reset(any_record(), &mut memory);
-    let mut rec = begun.rec;
-    let mut number: u64 = 1;
-    let mut from = 0;
-    while from < text.len() {
-        let line = read_line(&text[from..]);
-        let answer = line.answer;
-        if !is_done(answer) {
-            return Standing {
-                answer,
-                number,
-                rec,
-                memory,
-            };
-        }
-        let outcome = transfer(rec, &mut memory, line.kind, line.byte, line.wait);
-        let next = outcome.rec;
-        rec = next;
-        from += line.length;
-        number += 1;
-    }
+    let begun = reset(after_reset(), &mut memory);
+    let rec = begun.rec;
+    let start = Place {
+        from: 0,
+        at: 0,
+        number: 1,
+        rec,
+    };
+    let ended = walk(text, false, start, &mut memory, &mut []);
+    let answer = ended.answer;
+    let rec = ended.place.rec;
     Standing {
-        answer: Answer::Done,
-        number,
+        answer,
+        number: ended.place.number,
         rec,
         memory,
     }

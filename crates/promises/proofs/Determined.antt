@@ -3,6 +3,7 @@
 use mathlib.Core.List.{List}
 use mathlib.Core.Path.{_≡_, refl, ap, _∙_}
 use Prim.Native.Nat.{ℕ}
+use Rattle.lines.specs.Text.{Put, put}
 use Rattle.promises.specs.Determined.{ExactlyOne, EachDetermined}
 
 -- a value that is promised
@@ -23,6 +24,12 @@ three Fits promised lent left fits only = (
   fits,
   λ x is i. (only (x .0) (x .1) (x .2) is .0 i, only (x .0) (x .1) (x .2) is .1 i, only (x .0) (x .1) (x .2) is .2 i),
 )
+
+-- a place and a buffer that are promised
+placed : (promised : Put) → ExactlyOne (λ (x : ℕ × List ℕ). put (x .0) (x .1) ≡ promised)
+placed promised =
+    two (λ at out. put at out ≡ promised) (promised .at) (promised .out) refl
+    (λ at out is. (ap (λ (p : Put). p .at) is, ap (λ (p : Put). p .out) is))
 
 pub each-determined : EachDetermined
 each-determined =
@@ -46,16 +53,24 @@ each-determined =
       line-length = λ n. one _;
       short-time = one _;
       long-time = one _;
-      picture = λ rec mem columns lines lit out. two _ _ _ (record { told = refl; number = refl; out = refl }) (λ a l is. (is .told, is .out));
+      picture = λ rec mem size lit out. two _ _ _ (record { told = refl; number = refl; out = refl }) (λ a l is. (is .told, is .out));
       rows-of = λ function. one _;
+      is-shown = λ n shift size cell. one _;
       plan = λ wish marks values out. two _ _ _ (record { told = refl; number = refl; buffer = refl }) (λ a l is. (is .told, is .buffer));
+      hex-digit = λ number. one _;
+      worth-of = λ byte. one _;
+      put-byte = λ out at byte. placed _;
+      put-text = λ out at text. placed _;
+      put-number = λ out at number. placed _;
+      put-hex = λ out at byte. placed _;
+      first = λ bytes count. one _;
       read-line = λ text. one _;
       write-line = λ kind byte wait out. two _ _ _ (record { told = refl; number = refl; buffer = refl }) (λ a l is. (is .told, is .buffer));
       write-row = λ number answer byte busy out. two _ _ _ (record { told = refl; number = refl; buffer = refl }) (λ a l is. (is .told, is .buffer));
       write-header = λ out. two _ _ _ (record { told = refl; number = refl; buffer = refl }) (λ a l is. (is .told, is .buffer));
       play = λ text out. two _ _ _ (record { told = refl; number = refl; buffer = refl }) (λ a l is. (is .told, is .buffer));
       play-through = λ text. one _;
-      draw = λ form rec mem columns lines lit out. two _ _ _ (record { told = refl; number = refl; out = refl }) (λ a l is. (is .told, is .out));
+      draw = λ form rec mem size lit out. two _ _ _ (record { told = refl; number = refl; out = refl }) (λ a l is. (is .told, is .out));
       yaropesk-reset = λ bytes mem.
           three _ _ _ _ (record { told = refl; rec = refl; memory = refl }) (λ a b l is. (is .told, is .rec, is .memory));
       yaropesk-transfer = λ bytes mem kind byte wait.

@@ -17,7 +17,7 @@ use Rattle.interface.specs.Theorems.{CallRefusals}
 use Rattle.lines.specs.Theorems.{WrittenReadsBack, ReadWritesBack, OneReading}
 use Rattle.lines.specs.Writing.{Writing, Writes, wanting, lineWriting}
 use Rattle.lines.specs.declared.writer.Written.{Written}
-use Rattle.planner.specs.Demand
+use Rattle.planner.specs.Demand.{CutRuns}
 use Rattle.planner.specs.Theorems.{NotWishes, PlanRefusals, BoardSendsPlan}
 use Rattle.player.specs.Report.{playing}
 use Rattle.promises.specs.Answers.{EachAnswer}

@@ -2,9 +2,10 @@
 -- result meets the promise, and no second does. A result is what is returned, and with it each lent list as it is left.
 -- Assumes nothing.
 use mathlib.Core.Bool.{Bool}
-use mathlib.Core.List.{List}
+use mathlib.Core.List.{List, [], _∷_}
 use mathlib.Core.Path.{_≡_}
 use Prim.Native.Nat.{ℕ}
+use lib.ListN.{take}
 use Rattle.controller.specs.Bus.{whole, badTransfer, decided, resetDecided, Performs, PerformsIn}
 use Rattle.controller.specs.Cells.{cellOf, lineLength, addressSet}
 use Rattle.controller.specs.Answers.{numberOf, isDone, isRefusal}
@@ -20,15 +21,18 @@ use Rattle.controller.specs.declared.«record».Record.{Record}
 use Rattle.controller.specs.declared.«record».Function.{Function}
 use Rattle.drawing.specs.declared.drawing.Form.{Form}
 use Rattle.drawing.specs.Drawing.{Drawn}
-use Rattle.dots.specs.Geometry.{height}
+use Rattle.dots.specs.declared.geometry.Size.{Size}
+use Rattle.dots.specs.Geometry.{height, isShown}
 use Rattle.dots.specs.Picture.{Pictured}
 use Rattle.interface.specs.ControllerCalls.{Leaves, resetCall, transferCall}
 use Rattle.interface.specs.Filling.{Fills}
 use Rattle.interface.specs.LineCalls.{readCall, writeCall}
 use Rattle.interface.specs.PictureCalls.{pictureCall}
 use Rattle.interface.specs.PlanCalls.{planCall}
+use Rattle.lines.specs.Digits.{digit, worthOf, decimal, hexPair}
 use Rattle.lines.specs.Reading.{lineOf}
 use Rattle.lines.specs.ReportText.{header, row, rowSize}
+use Rattle.lines.specs.Text.{put, putting}
 use Rattle.lines.specs.Writing.{Writes, lineWriting, wanting}
 use Rattle.lines.specs.declared.reader.Line.{Line}
 use Rattle.lines.specs.declared.writer.Written.{Written}
@@ -66,11 +70,20 @@ pub record EachDetermined : Type 0 where
   pub line-length : (n : Bool) → ExactlyOne (λ (x : ℕ). x ≡ lineLength n)
   pub short-time : ExactlyOne (λ (x : ℕ). x ≡ shortTime)
   pub long-time : ExactlyOne (λ (x : ℕ). x ≡ longTime)
-  pub picture : (rec : Record) (mem : List ℕ) (columns lines : ℕ) (lit : Bool) (out : List ℕ)
-      → ExactlyOne (λ (x : Answer × List ℕ). Pictured rec mem columns lines lit out (x .0) (x .1))
+  pub picture : (rec : Record) (mem : List ℕ) (size : Size) (lit : Bool) (out : List ℕ)
+      → ExactlyOne (λ (x : Answer × List ℕ). Pictured rec mem size lit out (x .0) (x .1))
   pub rows-of : (function : Function) → ExactlyOne (λ (x : ℕ). x ≡ height function)
+  pub is-shown : (n : Bool) (shift : ℕ) (size : Size) (cell : ℕ) → ExactlyOne (λ (x : Bool). x ≡ isShown n shift size cell)
   pub plan : (wish : Wish) (marks values out : List ℕ)
       → ExactlyOne (λ (x : Planned × List ℕ). Plans (replyTo wish marks values out) out (x .0) (x .1))
+  pub hex-digit : (number : ℕ) → ExactlyOne (λ (x : ℕ). x ≡ digit number)
+  pub worth-of : (byte : ℕ) → ExactlyOne (λ (x : ℕ). x ≡ worthOf byte)
+  pub put-byte : (out : List ℕ) (at byte : ℕ) → ExactlyOne (λ (x : ℕ × List ℕ). put (x .0) (x .1) ≡ putting (put at out) (byte ∷ []))
+  pub put-text : (out : List ℕ) (at : ℕ) (text : List ℕ) → ExactlyOne (λ (x : ℕ × List ℕ). put (x .0) (x .1) ≡ putting (put at out) text)
+  pub put-number : (out : List ℕ) (at number : ℕ)
+      → ExactlyOne (λ (x : ℕ × List ℕ). put (x .0) (x .1) ≡ putting (put at out) (decimal number))
+  pub put-hex : (out : List ℕ) (at byte : ℕ) → ExactlyOne (λ (x : ℕ × List ℕ). put (x .0) (x .1) ≡ putting (put at out) (hexPair byte))
+  pub first : (bytes : List ℕ) (count : ℕ) → ExactlyOne (λ (x : List ℕ). x ≡ take count bytes)
   pub read-line : (text : List ℕ) → ExactlyOne (λ (x : Line). x ≡ lineOf text)
   pub write-line : (kind byte wait : ℕ) (out : List ℕ)
       → ExactlyOne (λ (x : Written × List ℕ). Writes (lineWriting kind byte wait out) out (x .0) (x .1))
@@ -79,8 +92,8 @@ pub record EachDetermined : Type 0 where
   pub write-header : (out : List ℕ) → ExactlyOne (λ (x : Written × List ℕ). Writes (wanting 20 header out) out (x .0) (x .1))
   pub play : (text out : List ℕ) → ExactlyOne (λ (x : Written × List ℕ). Writes (playing text out) out (x .0) (x .1))
   pub play-through : (text : List ℕ) → ExactlyOne (λ (x : Standing). x ≡ standing text)
-  pub draw : (form : Form) (rec : Record) (mem : List ℕ) (columns lines : ℕ) (lit : Bool) (out : List ℕ)
-      → ExactlyOne (λ (x : Written × List ℕ). Drawn form rec mem columns lines lit out (x .0) (x .1))
+  pub draw : (form : Form) (rec : Record) (mem : List ℕ) (size : Size) (lit : Bool) (out : List ℕ)
+      → ExactlyOne (λ (x : Written × List ℕ). Drawn form rec mem size lit out (x .0) (x .1))
   pub yaropesk-reset : (bytes mem : List ℕ)
       → ExactlyOne (λ (x : ℕ × List ℕ × List ℕ). Leaves (resetCall bytes mem) (x .0) (x .1) (x .2))
   pub yaropesk-transfer : (bytes mem : List ℕ) (kind byte wait : ℕ)

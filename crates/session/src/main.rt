@@ -2,6 +2,7 @@
 // Document 01, "Session lines".
 use libc::STDIN_FILENO;
 use libc::STDOUT_FILENO;
+use lines::first;
 
 // The longest session.
 const LIMIT: usize = 65_536;
@@ -15,8 +16,7 @@ const OUTPUT: usize = 393_278;
 fn report(text: &[u8]) {
     let mut out = [0u8; OUTPUT];
     let played = player::play(text, &mut out);
-    let length = played.length;
-    io::write_all(STDOUT_FILENO, &out[..length]);
+    io::write_all(STDOUT_FILENO, first(&out, played.length));
 }
 
 fn main() {

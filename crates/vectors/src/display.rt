@@ -9,11 +9,11 @@ use crate::record::see_record;
 use crate::shapes::cursor_position;
 use crate::shapes::dots;
 use crate::shapes::letter_at;
-use crate::text::put_byte;
-use crate::text::put_hex;
-use crate::text::put_text;
 use crate::text::put_two;
 use controller::Record;
+use lines::put_byte;
+use lines::put_hex;
+use lines::put_text;
 
 // Sixteen letters from this position on.
 fn put_letters(
@@ -137,7 +137,11 @@ fn see_dots(seen: &mut [u8], picture: &[u8; 256], position: usize)
 // What is seen on the glass, which has 16 columns and two lines; a smaller one is its upper left part.
 fn see_glass(seen: &mut [u8], shapes: &[u8; 768], rec: Record, memory: &[u8; 144], view: u8) {
     let mut picture = [0u8; 256];
-    dots::picture(rec, memory, 16, 2, false, &mut picture);
+    let size = dots::Size {
+        columns: 16,
+        lines: 2,
+    };
+    dots::picture(rec, memory, size, false, &mut picture);
     let n = rec.function.n;
     match view {
         b'L' => see_line(seen, shapes, &picture),

@@ -14,17 +14,10 @@ mod shapes;
 mod text;
 
 use libc::STDOUT_FILENO;
+use lines::first;
 use report::Tally;
 use report::put_total;
 use shapes::shapes;
-
-// The first bytes of the buffer, as many as this.
-fn write_first(out: &[u8], length: usize) {
-    if out.len() < length {
-        return;
-    }
-    io::write_all(STDOUT_FILENO, &out[..length]);
-}
 
 // Every document's examples, in their order.
 fn play_documents(out: &mut [u8]) -> Tally {
@@ -40,13 +33,9 @@ fn play_documents(out: &mut [u8]) -> Tally {
     put_total(out, fourth)
 }
 
-fn print(out: &[u8; 65536], length: usize) {
-    write_first(out, length);
-}
-
 // The report is gathered and written once. The buffer holds it even where every row differs.
 fn main() {
     let mut out = [0u8; 65536];
     let total = play_documents(&mut out);
-    print(&out, total.at);
+    io::write_all(STDOUT_FILENO, first(&out, total.at));
 }

@@ -5,13 +5,10 @@ use crate::row::first_byte;
 use crate::row::is_halved;
 use crate::row::second_byte;
 use crate::row::wait_of;
-use controller::Control;
 use controller::Counter;
-use controller::Entry;
-use controller::Function;
-use controller::Half;
 use controller::Record;
-use controller::number;
+use controller::after_reset;
+use controller::is_refusal;
 use controller::reset;
 use controller::transfer;
 
@@ -21,31 +18,22 @@ pub struct Played {
     pub refused: bool,
 }
 
-// The record before power on. Reset takes any, so it does not matter which.
+// The record before power on. Reset takes any; this one differs from what reset leaves wherever the manuals look.
 pub fn unpowered() -> Record {
+    let mut rec = after_reset();
+    rec.wide = false;
+    rec.function.n = true;
+    rec.function.f = true;
+    rec.control.d = true;
+    rec.control.c = true;
+    rec.control.b = true;
+    rec.entry.id = false;
+    rec.entry.s = true;
+    rec.shift = 79;
+    rec.busy = 0;
     Record {
-        wide: false,
-        function: Function { n: true, f: true },
-        control: Control {
-            d: true,
-            c: true,
-            b: true,
-        },
-        entry: Entry { id: false, s: true },
-        shift: 79,
         counter: Counter::Pattern(63),
-        reg: 0,
-        fresh: false,
-        busy: 0,
-        half: Half::Empty,
-    }
-}
-
-// Document 01, "What each number says": all but 0, 5, 7 and 8 are refusals.
-fn is_refusal(answer: u8) -> bool {
-    match answer {
-        0 | 5 | 7 | 8 => false,
-        _ => true,
+        ..rec
     }
 }
 
@@ -56,7 +44,7 @@ fn send(memory: &mut [u8; 144], kind: u8, byte: u8, wait: u32, played: Played) -
     let next = outcome.rec;
     Played {
         rec: next,
-        refused: played.refused || is_refusal(number(answer)),
+        refused: played.refused || is_refusal(answer),
     }
 }
 

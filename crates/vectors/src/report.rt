@@ -4,9 +4,9 @@ use crate::row::PRINTED;
 use crate::row::VIEW;
 use crate::row::byte_at;
 use crate::row::is_numbered;
-use crate::text::put_byte;
-use crate::text::put_number;
-use crate::text::put_text;
+use lines::put_byte;
+use lines::put_number;
+use lines::put_text;
 
 // The length of the report so far, the steps played, and those that differ from the manual. The sums wrap rather than ask
 // that they fit.

@@ -12,6 +12,7 @@
 // them; the wait in microseconds; how the display is looked at (module `display`); and what the manual prints.
 ghost use Prim.Native.Nat.{_≤_, _<_};
 ghost use lib.ListN.{length};
+use lines::worth_of;
 
 // Where the fields of a step begin.
 pub const KIND: usize = 3;
@@ -58,29 +59,11 @@ pub fn is_numbered(row: &[u8]) -> bool {
     byte_at(row, 1) != b' '
 }
 
-// A digit's value. A blank counts as 0.
-fn digit_value(digit: u8) -> u8
-    ensures { λ r. ⌜ r < 16 ⌝ }
-{
-    if digit < b'0' {
-        return 0;
-    }
-    if digit <= b'9' {
-        return digit - b'0';
-    }
-    if digit < b'A' {
-        return 0;
-    }
-    if digit <= b'F' {
-        return digit - b'A' + 10;
-    }
-    0
-}
-
+// A digit's value. A blank, which is worth 16, counts as 0.
 fn digit_at(row: &[u8], at: usize) -> u8
     ensures { λ r. ⌜ r < 16 ⌝ }
 {
-    digit_value(byte_at(row, at))
+    worth_of(byte_at(row, at)) % 16
 }
 
 fn wide_digit_at(row: &[u8], at: usize) -> u32

@@ -1,38 +1,25 @@
 // Reads a picture back: which letter stands at a position, and where the cursor is. A letter is known by its dots alone,
 // by comparing them with pictures of one letter each. The picture is 16 columns wide and two lines high.
 ghost use Prim.Native.Nat.{_<_};
-use controller::Control;
-use controller::Counter;
-use controller::Entry;
-use controller::Function;
-use controller::Half;
 use controller::Record;
+use controller::after_reset;
 
 // A record that shows display cell 0 at the first position, without a cursor.
 fn plain() -> Record {
-    Record {
-        wide: true,
-        function: Function { n: false, f: false },
-        control: Control {
-            d: true,
-            c: false,
-            b: false,
-        },
-        entry: Entry { id: true, s: false },
-        shift: 0,
-        counter: Counter::Display(0),
-        reg: 0,
-        fresh: false,
-        busy: 0,
-        half: Half::Empty,
-    }
+    let mut rec = after_reset();
+    rec.control.d = true;
+    rec
 }
 
 // The eight rows of one code, from a picture of one column and one line.
 fn shape_of(code: u8) -> [u8; 8] {
     let memory = [code; 144];
     let mut shape = [0u8; 8];
-    dots::picture(plain(), &memory, 1, 1, false, &mut shape);
+    let size = dots::Size {
+        columns: 1,
+        lines: 1,
+    };
+    dots::picture(plain(), &memory, size, false, &mut shape);
     shape
 }
 

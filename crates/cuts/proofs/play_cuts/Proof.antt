@@ -1,5 +1,4 @@
--- `cuts::play_cuts` meets its contract: each cut lies within the plan; the measure is the cuts that are left.
--- Assumes nothing.
+-- `cuts::play_cuts` is safe and ends: each cut lies within the plan; the measure is the cuts that are left.
 use Prim.Native.Nat.{_+_, _-_, _≤_}
 use borrow.Author.Needs.{needs}
 use Rattle.cuts.proofs.play_cuts.Statement.{statement}

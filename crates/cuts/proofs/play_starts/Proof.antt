@@ -1,5 +1,4 @@
--- `cuts::play_starts` meets its contract: the measure is the starts that are left.
--- Assumes nothing.
+-- `cuts::play_starts` is safe and ends: the measure is the starts that are left.
 use Prim.Native.Nat.{_-_, _≤_}
 use borrow.Author.Needs.{needs}
 use Rattle.cuts.proofs.play_starts.Statement.{statement}

@@ -1,5 +1,4 @@
--- `cuts::play_wishes` meets its contract: the measure is the wishes that are left.
--- Assumes nothing.
+-- `cuts::play_wishes` is safe and ends: the measure is the wishes that are left.
 use Prim.Native.Nat.{_-_, _≤_}
 use borrow.Author.Needs.{needs}
 use Rattle.cuts.proofs.play_wishes.Statement.{statement}

@@ -7,7 +7,7 @@ use native.Mathlib.Nat.{mul-le-mul, mul-le-mul-left, div-add-mod', div-le-self, 
 use native.Mathlib.Omega.{arith}
 use borrow.Author.Tests.{eqb-false}
 use lib.Dec.{eqb}
-use Rattle.drawing.specs.declared.grid.Size.{Size}
+use Rattle.drawing.specs.declared.grid.Grid.{Grid}
 use Rattle.drawing.specs.Grid.{Small, isBetween, lastX, lastY}
 
 -- the second test of two is false where neither holds
@@ -16,26 +16,26 @@ second-false true b is = cc
 second-false false b is = is
 
 -- a place in a character is in none of the empty rows
-pub some-row : (size : Size) (x y : ℕ) → isBetween size x y ≡ false → y % (size .rows + 1) ≡ 0 → ⊥
+pub some-row : (grid : Grid) (x y : ℕ) → isBetween grid x y ≡ false → y % (grid .rows + 1) ≡ 0 → ⊥
 unfolding isBetween
-some-row size x y is = eqb-false (y % (size .rows + 1)) 0 (second-false (eqb (x % 6) 0) (eqb (y % (size .rows + 1)) 0) is)
+some-row grid x y is = eqb-false (y % (grid .rows + 1)) 0 (second-false (eqb (x % 6) 0) (eqb (y % (grid .rows + 1)) 0) is)
 
 -- so at least one row and the empty rows are above its end
-pub empty-above : (size : Size) (x y : ℕ) → isBetween size x y ≡ false → y / (size .rows + 1) + 1 ≤ y
-empty-above size x y is =
-    let whole = div-add-mod' y (size .rows + 1) in
-    let least = mul-le-mul-left {m = 1} {n = size .rows + 1} (y / (size .rows + 1)) (omega arith) in
-    let some = some-row size x y is in
-    omega (arith, mul-one (y / (size .rows + 1)), some)
+pub empty-above : (grid : Grid) (x y : ℕ) → isBetween grid x y ≡ false → y / (grid .rows + 1) + 1 ≤ y
+empty-above grid x y is =
+    let whole = div-add-mod' y (grid .rows + 1) in
+    let least = mul-le-mul-left {m = 1} {n = grid .rows + 1} (y / (grid .rows + 1)) (omega arith) in
+    let some = some-row grid x y is in
+    omega (arith, mul-one (y / (grid .rows + 1)), some)
 
 -- a product of small numbers is small
 pub product : (a b m n : ℕ) → a ≤ m → b ≤ n → a * b ≤ m * n
 product a b m n p q = mul-le-mul p q
 
-pub last-y-most : (size : Size) → Small size → lastY size ≤ 24
+pub last-y-most : (grid : Grid) → Small grid → lastY grid ≤ 24
 unfolding lastY
-last-y-most size small = product (size .lines) (size .rows + 1) 2 12 (small .lines) (let r = small .rows in omega arith)
+last-y-most grid small = product (grid .size .lines) (grid .rows + 1) 2 12 (small .lines) (let r = small .rows in omega arith)
 
-pub last-x-most : (size : Size) → Small size → lastX size ≤ 240
+pub last-x-most : (grid : Grid) → Small grid → lastX grid ≤ 240
 unfolding lastX
-last-x-most size small = let c = small .columns in omega arith
+last-x-most grid small = let c = small .columns in omega arith

@@ -7,27 +7,25 @@ use Prim.Native.Nat.{ℕ, _+_, _-_, _≤_, _<_}
 use native.Mathlib.Omega.{arith}
 use lib.ListN.{length, getD, List·getD-append}
 use lib.Seq.{getD-append-add}
-use Rattle.controller.specs.Cells.{lineLength}
 use Rattle.controller.specs.declared.cells.Counter.{Counter}
 use Rattle.controller.specs.declared.cells.Counter.the-variants.{Display, Pattern}
 use Rattle.controller.specs.declared.«record».Half.{Half}
 use Rattle.controller.specs.declared.«record».Half.the-variants.{Empty, InstructionWrite, DataWrite, StatusRead, DataRead}
 use Rattle.controller.specs.declared.«record».Record.{Record}
+use Rattle.lines.specs.Text.{bytesOf}
 use Rattle.drawing.specs.Numbers.{twoWide}
-use Rattle.drawing.specs.State.{onOff, memoryShown, halfShown, writeShown, readShown, linesShown, linesWord, displayWord, shownFields, counterField}
+use Rattle.drawing.specs.State.{onOff, memoryShown, halfShown, writeShown, readShown, linesShown, shownFields, counterField}
 
 -- a field and what follows it, byte by byte
 pub memory-bytes : (counter : Counter) (rest : List ℕ)
     → memoryShown counter ++ rest
     ≡ getD (memoryShown counter) 0 0 ∷ getD (memoryShown counter) 1 0 ∷ getD (memoryShown counter) 2 0 ∷ getD (memoryShown counter) 3 0
     ∷ getD (memoryShown counter) 4 0 ∷ getD (memoryShown counter) 5 0 ∷ getD (memoryShown counter) 6 0 ∷ rest
-unfolding memoryShown
 memory-bytes (Display cell) rest = refl
 memory-bytes (Pattern cell) rest = refl
 
 pub half-bytes : (half : Half) (rest : List ℕ)
     → halfShown half ++ rest ≡ getD (halfShown half) 0 0 ∷ getD (halfShown half) 1 0 ∷ getD (halfShown half) 2 0 ∷ getD (halfShown half) 3 0 ∷ rest
-unfolding halfShown writeShown readShown
 half-bytes Empty rest = refl
 half-bytes (InstructionWrite high) rest = refl
 half-bytes (DataWrite high) rest = refl
@@ -36,21 +34,18 @@ half-bytes (DataRead byte) rest = refl
 
 -- a field that ends a text
 pub on-off-is : (d : Bool) → (getD (onOff d) 0 0 ∷ getD (onOff d) 1 0 ∷ getD (onOff d) 2 0 ∷ []) ≡ onOff d
-unfolding onOff
 on-off-is true = refl
 on-off-is false = refl
 
 -- how long the fields are
 pub shown-length : (rec : Record) → length (shownFields rec) ≡ 20
-unfolding shownFields onOff
 shown-length rec = go (rec .control .d)
   where
-    go : (d : Bool) → length (linesWord ++ (linesShown (rec .function .n) ∷ (displayWord ++ onOff d))) ≡ 20
+    go : (d : Bool) → length (bytesOf "lines " ++ (linesShown (rec .function .n) ∷ (bytesOf "  display " ++ onOff d))) ≡ 20
     go true = refl
     go false = refl
 
 pub counter-length : (counter : Counter) → length (counterField counter) ≡ 20
-unfolding counterField memoryShown twoWide
 counter-length (Display cell) = refl
 counter-length (Pattern cell) = refl
 
@@ -62,9 +57,3 @@ pub second-byte : (front back : List ℕ) (size place : ℕ) → length front �
 second-byte front back size place long past =
     let at : length front + (place - size) ≡ place = omega arith in
     sym (getD-append-add front back (place - size) 0) ∙ ap (λ (k : ℕ). getD (front ++ back) k 0) at
-
--- a line has some cells
-pub line-some : (n : Bool) → 0 < lineLength n
-unfolding lineLength
-line-some true = omega arith
-line-some false = omega arith

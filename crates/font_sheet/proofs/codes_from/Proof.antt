@@ -1,6 +1,5 @@
 -- `font_sheet::codes_from` is safe and ends: the code is as far from the first as the cell is from 0; the measure is
 -- the cells that are left.
--- Assumes nothing.
 use Prim.Native.Nat.{_+_, _-_, _≤_}
 use mathlib.Core.Path.{_≡_}
 use borrow.Author.Needs.{needs}

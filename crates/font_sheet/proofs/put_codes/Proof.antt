@@ -1,6 +1,5 @@
 -- `font_sheet::put_codes` is safe and ends: the code is as far from the first as the column is from 0; the measure is
 -- the columns that are left.
--- Assumes nothing.
 use Prim.Native.Nat.{_+_, _-_, _≤_}
 use mathlib.Core.Path.{_≡_}
 use borrow.Author.Needs.{needs}

@@ -1,5 +1,4 @@
 -- `font_sheet::put_row` is safe and ends: the measure is the columns that are left.
--- Assumes nothing.
 use Prim.Native.Nat.{_-_, _≤_}
 use borrow.Author.Needs.{needs}
 use Rattle.font_sheet.proofs.put_row.Statement.{statement}

@@ -6,7 +6,7 @@ use mathlib.Core.Path.{_≡_, refl, ap, subst, _∙_}
 use Prim.Native.Nat.{ℕ, _+_, _*_}
 use lib.ListN.{length}
 use borrow.Author.Tests.{eqb-true}
-use Rattle.controller.specs.declared.answers.Answer.the-variants.{Done}
+use Rattle.controller.specs.declared.answers.Answer.the-variants.{Done, Unsound}
 use Rattle.controller.specs.declared.decision.Decision.{Decision}
 use Rattle.controller.specs.declared.decision.Outcome.{Outcome}
 use Rattle.controller.specs.declared.«record».Record.{Record}
@@ -33,21 +33,6 @@ pub reset-meets : (bytes mem : List ℕ) (rec : Record) (outcome : Outcome) {ret
     → Bus.Performs (resetDecided rec mem) mem outcome after → Left outcome returned left → Leaves (callOf (resetDecided (recordFrom bytes) mem) mem) returned left after
 reset-meets bytes mem rec outcome {returned} {left} {after} is met kept =
     subst (λ (x : Record). Leaves (callOf (resetDecided x mem) mem) returned left after) is (left-meets (resetDecided rec mem) mem outcome (met .told) kept (met .memory))
-
--- bytes that say no record
-pub broken-meets : (bytes mem : List ℕ) (kind byte wait : ℕ) → recordIn bytes ≡ Broken → Leaves (transferCall bytes mem kind byte wait) 1 bytes mem
-unfolding transferFrom
-broken-meets bytes mem kind byte wait broken = rw broken (record { told = refl; rec = refl; memory = refl })
-
--- bytes that say this record
-pub found-meets : (bytes mem : List ℕ) (kind byte wait : ℕ) (rec : Record) {returned : ℕ} {left after : List ℕ} → recordIn bytes ≡ Is rec
-    → Leaves (callOf (decided rec mem kind byte wait) mem) returned left after → Leaves (transferCall bytes mem kind byte wait) returned left after
-unfolding transferFrom
-found-meets bytes mem kind byte wait rec found meets = rw found meets
-
-pub long : (bytes : List ℕ) → isRecordLong bytes ≡ true → length bytes ≡ 24
-unfolding isRecordLong
-long bytes is = eqb-true (length bytes) 24 is
 
 -- a reset of a whole memory is done
 pub reset-done : (rec : Record) (mem : List ℕ) → whole mem ≡ true → resetDecided rec mem .answer ≡ Done

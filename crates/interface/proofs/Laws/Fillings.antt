@@ -9,11 +9,12 @@ use native.Mathlib.Omega.{arith}
 use lib.Dec.{ltb}
 use lib.ListN.{length}
 use Rattle.controller.specs.declared.answers.Answer.{Answer}
-use Rattle.controller.specs.declared.answers.Answer.the-variants.{BadTransfer, OutputShort}
+use Rattle.controller.specs.declared.answers.Answer.the-variants.{BadTransfer, OutputShort, Unsound}
 use Rattle.controller.specs.declared.«record».Record.{Record}
 use Rattle.controller.specs.Bus.{badTransfer}
 use Rattle.controller.specs.Answers.{numberOf}
 use Rattle.controller.proofs.Laws.Choice.{cond-elim}
+use Rattle.dots.specs.declared.geometry.Size.{Size}
 use Rattle.dots.specs.Picture.{Pictured}
 use Rattle.lines.specs.declared.writer.Written.{Written}
 use Rattle.lines.specs.Line.{line, waitLimit}
@@ -28,19 +29,6 @@ use Rattle.interface.specs.Filling.{Fills}
 use Rattle.interface.specs.LineCalls.{fillingOf, readCall, stored}
 use Rattle.interface.specs.PictureCalls.{drawingOf, pictureFrom}
 use Rattle.interface.specs.RecordBytes.{recordIn}
-
--- a picture that was drawn
-pub drawn-fills : (rec : Record) (mem : List ℕ) (columns lines : ℕ) (lit : Bool) (out : List ℕ) (answer : Answer) {returned : ℕ} {after : List ℕ}
-    → Pictured rec mem columns lines lit out answer after → returned ≡ numberOf answer + 256 * 0 → Fills (drawingOf rec mem columns lines lit out) returned after
-drawn-fills rec mem columns lines lit out answer drawn told =
-    let bare : numberOf answer + 256 * 0 ≡ numberOf answer = omega arith in
-    record { told = told ∙ bare ∙ ap numberOf (drawn .told); buffer = drawn .out }
-
--- bytes that say no record have no picture
-pub broken-fills : (bytes mem : List ℕ) (columns lines : ℕ) (lit : Bool) (out : List ℕ) → recordIn bytes ≡ Broken
-    → Fills (pictureFrom (recordIn bytes) mem columns lines lit out) 1 out
-unfolding pictureFrom
-broken-fills bytes mem columns lines lit out broken = rw broken (record { told = refl; buffer = refl })
 
 -- a text that was written
 pub written-fills : (w : Writing) (out : List ℕ) (told : Written) {returned : ℕ} {after : List ℕ}

@@ -32,7 +32,7 @@ said own is none apart one size bytes found a h =
     (eqb-true (length bytes) size (long .0), ap own (sym (one found a (same .1))) ∙ sym (same-eq bytes (own found) (same .0)))
 
 record-said : (bytes : List ℕ) (rec : Record) → recordIn bytes ≡ ReadRecord.Is rec → (length bytes ≡ 24) × (recordBytes rec ≡ bytes)
-unfolding recordIn isRecordLong recordAs
+unfolding recordIn recordAs
 record-said bytes =
     said recordBytes ReadRecord.Is ReadRecord.Broken
     (λ rec none. let z : _≡_ {A = ℕ} 0 1 = cc in omega arith) (λ a b same. cc)

@@ -19,6 +19,7 @@ use Rattle.controller.specs.Rows.{resetRows, transferRows}
 use Rattle.controller.proofs.Laws.Choice.{cond-map}
 use Rattle.controller.proofs.Laws.Answers.{first, given}
 use Rattle.controller.proofs.Theorems.Answers.{transfer-answers}
+use Rattle.dots.specs.declared.geometry.Size.{Size}
 use Rattle.dots.specs.Picture.{answered}
 use Rattle.dots.specs.Theorems.{pictureRows}
 use Rattle.dots.proofs.Theorems.{picture-answers}
@@ -38,7 +39,7 @@ use Rattle.interface.specs.declared.wish_bytes.ReadWish.the-variants as 
 use Rattle.interface.specs.ControllerCalls.{Call, resetCall, transferFrom}
 use Rattle.interface.specs.Filling.{Filling}
 use Rattle.interface.specs.LineCalls.{stored, writeCall}
-use Rattle.interface.specs.PictureCalls.{pictureFrom}
+use Rattle.interface.specs.PictureCalls.{pictureFrom, sizeOf}
 use Rattle.interface.specs.PlanCalls.{planFrom, wishless}
 use Rattle.interface.specs.RecordBytes.{recordFrom, isRecordLong, recordIn}
 use Rattle.interface.specs.Theorems.{CallAnswers, ReadTells, Tells, answerIn, notWish, planCallRows, resetCallRows, recordRows}
@@ -61,17 +62,17 @@ unsound-rows rows = given 1 (recordRows Broken rows) refl
 transfer-tells : (read : ReadRecord) (bytes mem : List ℕ) (kind byte wait : ℕ)
     → Tells (transferFrom read bytes mem kind byte wait .returned) (recordRows read (λ rec. transferRows rec mem kind byte wait))
 unfolding transferFrom recordRows
-transfer-tells Broken bytes mem kind byte wait = tells Unsound 0 _ _ (omega arith) (unsound-rows (λ rec. transferRows rec mem kind byte wait))
+transfer-tells Broken bytes mem kind byte wait = tells Unsound 0 1 _ refl (unsound-rows (λ rec. transferRows rec mem kind byte wait))
 transfer-tells (Is rec) bytes mem kind byte wait =
     let d = decided rec mem kind byte wait in
     tells (d .answer) (d .byte) _ _ refl (transfer-answers rec mem kind byte wait)
 
-picture-tells : (read : ReadRecord) (mem : List ℕ) (columns lines : ℕ) (lit : Bool) (out : List ℕ)
-    → Tells (pictureFrom read mem columns lines lit out .returned) (recordRows read (λ rec. pictureRows rec mem columns lines (length out)))
+picture-tells : (read : ReadRecord) (mem : List ℕ) (size : Size) (lit : Bool) (out : List ℕ)
+    → Tells (pictureFrom read mem size lit out .returned) (recordRows read (λ rec. pictureRows rec mem size (length out)))
 unfolding pictureFrom recordRows
-picture-tells Broken mem columns lines lit out = tells Unsound 0 _ _ (omega arith) (unsound-rows (λ rec. pictureRows rec mem columns lines (length out)))
-picture-tells (Is rec) mem columns lines lit out =
-    tells (answered rec mem columns lines (length out)) 0 _ _ (omega arith) (picture-answers rec mem columns lines (length out))
+picture-tells Broken mem size lit out = tells Unsound 0 1 _ refl (unsound-rows (λ rec. pictureRows rec mem size (length out)))
+picture-tells (Is rec) mem size lit out =
+    tells (answered rec mem size (length out)) 0 _ _ (omega arith) (picture-answers rec mem size (length out))
 
 reset-number : (bytes mem : List ℕ) → answerIn (resetCall bytes mem .returned) ≡ first (resetCallRows bytes mem)
 unfolding resetCall resetCallRows resetRows first
@@ -131,7 +132,7 @@ call-answers =
     record {
       reset = λ bytes mem. given _ (resetCallRows bytes mem) (reset-number bytes mem);
       transfer = λ bytes mem kind byte wait. transfer-tells (recordIn bytes) bytes mem kind byte wait;
-      picture = λ bytes mem columns lines lit out. picture-tells (recordIn bytes) mem columns lines (not (eqb lit 0)) out;
+      picture = λ bytes mem columns lines lit out. picture-tells (recordIn bytes) mem (sizeOf columns lines) (not (eqb lit 0)) out;
       plan = λ wish marks values out. plan-tells (wishIn wish) marks values out;
       write-line = write-tells;
       read-line = read-tells;

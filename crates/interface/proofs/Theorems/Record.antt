@@ -10,32 +10,29 @@ use Rattle.controller.specs.declared.cells.Counter.the-variants.{Display, Patte
 use Rattle.controller.specs.declared.«record».Half.{Half}
 use Rattle.controller.specs.declared.«record».Half.the-variants.{Empty, InstructionWrite, DataWrite, StatusRead, DataRead}
 use Rattle.controller.specs.declared.«record».Record.{Record}
+use Rattle.controller.specs.Cells.{cellOf}
 use Rattle.controller.specs.Record.{resetTime}
 use Rattle.controller.proofs.Laws.Record.{sound-busy}
-use Rattle.planner.proofs.Theorems.Plan.{four-bytes}
-use Rattle.interface.specs.RecordBytes.{widthByte, bitByte, memoryByte, cellByte, halfByte, valueByte, counterFrom, halfFrom, recordBytes, recordFrom, isRecordLong, recordIn, recordAs}
+use Rattle.controller.proofs.Laws.Sent.{four-bytes}
+use Rattle.interface.specs.RecordBytes.{widthByte, bitByte, memoryByte, halfByte, valueByte, counterFrom, halfFrom, recordBytes, recordFrom, recordIn, recordAs}
 use Rattle.interface.specs.Theorems.{RecordReadsBack, RecordWritesBack}
 use Rattle.interface.proofs.Laws.Same.{same-refl, bytes-length}
 use Rattle.interface.proofs.Laws.Read.{read-own}
 
 width-back : (wide : Bool) → eqb (widthByte wide) 8 ≡ wide
-unfolding widthByte
 width-back true = refl
 width-back false = refl
 
 -- a bit is read back
 pub bit-back : (bit : Bool) → eqb (bitByte bit) 1 ≡ bit
-unfolding bitByte
 bit-back true = refl
 bit-back false = refl
 
-counter-back : (counter : Counter) → counterFrom (memoryByte counter) (cellByte counter) ≡ counter
-unfolding counterFrom memoryByte cellByte
+counter-back : (counter : Counter) → counterFrom (memoryByte counter) (cellOf counter) ≡ counter
 counter-back (Display cell) = refl
 counter-back (Pattern cell) = refl
 
 half-back : (half : Half) → halfFrom (halfByte half) (valueByte half) ≡ half
-unfolding halfFrom halfByte valueByte
 half-back Empty = refl
 half-back (InstructionWrite high) = refl
 half-back (DataWrite high) = refl
@@ -49,7 +46,7 @@ from-back rec below =
     simp (width-back, bit-back, counter-back, half-back, n)
 
 pub record-reads-back : RecordReadsBack
-unfolding recordIn isRecordLong recordAs resetTime
+unfolding recordIn recordAs resetTime
 record-reads-back rec is =
     let limit = sound-busy rec is in
     let below : rec .busy < 4294967296 = omega arith in

@@ -21,6 +21,7 @@ use Rattle.controller.specs.Theorems.{left}
 use Rattle.controller.proofs.Laws.Choice.{cond-elim}
 use Rattle.controller.proofs.Theorems.Refusals.{transfer-refusals}
 use Rattle.dots.proofs.Theorems.{picture-refusals}
+use Rattle.dots.specs.declared.geometry.Size.{Size}
 use Rattle.dots.specs.Picture.{answered}
 use Rattle.lines.specs.Reading.{lineOf}
 use Rattle.lines.specs.declared.reader.Line.{Line}
@@ -34,7 +35,7 @@ use Rattle.interface.specs.declared.wish_bytes.ReadWish.the-variants as 
 use Rattle.interface.specs.ControllerCalls.{Call, resetCall, transferFrom}
 use Rattle.interface.specs.Filling.{Filling}
 use Rattle.interface.specs.LineCalls.{stored, writeCall}
-use Rattle.interface.specs.PictureCalls.{pictureFrom}
+use Rattle.interface.specs.PictureCalls.{pictureFrom, sizeOf}
 use Rattle.interface.specs.PlanCalls.{planFrom, wishless}
 use Rattle.interface.specs.RecordBytes.{recordBytes, recordFrom, isRecordLong, recordIn}
 use Rattle.interface.specs.Theorems.{CallRefusals, KeepsBuffer, KeepsMemory, Refuses, answerIn, bytesLeft}
@@ -70,14 +71,14 @@ memory-kept call mem bytes told n is kept answer refuses =
 
 -- a number that is not 0
 not-done : (answer : Answer) → isRefusal answer ≡ true → numberOf answer ≡ 0 → ⊥
-unfolding numberOf isRefusal
+unfolding isRefusal
 not-done answer r e = false≢true (ap isRefusal (sym (one-answer answer Done e)) ∙ r)
 
-picture-kept : (read : ReadRecord) (mem : List ℕ) (columns lines : ℕ) (lit : Bool) (out : List ℕ) → KeepsBuffer (pictureFrom read mem columns lines lit out) out
+picture-kept : (read : ReadRecord) (mem : List ℕ) (size : Size) (lit : Bool) (out : List ℕ) → KeepsBuffer (pictureFrom read mem size lit out) out
 unfolding pictureFrom
-picture-kept Broken mem columns lines lit out = buffer-kept _ out Unsound 0 (omega arith) (λ _. (refl, refl))
-picture-kept (Is rec) mem columns lines lit out =
-    buffer-kept _ out (answered rec mem columns lines (length out)) 0 (omega arith) (λ r. (refl, picture-refusals rec mem columns lines lit out r))
+picture-kept Broken mem size lit out = buffer-kept _ out Unsound 0 (omega arith) (λ _. (refl, refl))
+picture-kept (Is rec) mem size lit out =
+    buffer-kept _ out (answered rec mem size (length out)) 0 (omega arith) (λ r. (refl, picture-refusals rec mem size lit out r))
 
 plan-kept : (read : ReadWish) (marks values out : List ℕ) → KeepsBuffer (planFrom read marks values out) out
 unfolding planFrom
@@ -144,7 +145,7 @@ call-refusals =
     record {
       reset = reset-kept;
       transfer = λ bytes mem kind byte wait. transfer-kept (recordIn bytes) bytes mem kind byte wait refl;
-      picture = λ bytes mem columns lines lit out. picture-kept (recordIn bytes) mem columns lines (not (eqb lit 0)) out;
+      picture = λ bytes mem columns lines lit out. picture-kept (recordIn bytes) mem (sizeOf columns lines) (not (eqb lit 0)) out;
       plan = λ wish marks values out. plan-kept (wishIn wish) marks values out;
       write-line = write-kept;
       read-line = λ text out. read-kept (lineOf text) out;

@@ -14,7 +14,7 @@ unfolding wishBytes
 wish-length wish = refl
 
 wish-back : (wish : Wish) → wishFrom (wishBytes wish) ≡ wish
-unfolding wishFrom wishBytes
+unfolding wishBytes
 wish-back wish = simp bit-back
 
 pub wish-reads-back : WishReadsBack

@@ -1,6 +1,6 @@
 -- Laws of digits: what a digit is worth is what it was made of, and the decimal digits of a number one by one.
 -- Assumes nothing.
-use mathlib.Core.Bool.{Bool, true, false}
+use mathlib.Core.Bool.{Bool, true, false, cond}
 use mathlib.Core.List.{List, [], _∷_, _++_}
 use mathlib.Core.Path.{_≡_, refl, ap, _∙_}
 use Prim.Native.Nat.{ℕ, zero, suc, _+_, _-_, _*_, _/_, _%_, _^_, _<_, _≤_}
@@ -76,11 +76,17 @@ field-length n end = length-append (decimal n) (end ∷ [])
 pub field-below : (k n end : ℕ) → n < 10 ^ suc k → length (numberField n end) ≤ suc k + 1
 field-below k n end below = omega (arith, field-length n end, decimal-length k n below)
 
+-- below 16 the last digit is the only one
+digit-is : (worth : ℕ) → worth < 16 → digit worth ≡ cond (ltb worth 10) (0x30 + worth) (0x37 + worth)
+unfolding digit
+digit-is worth below = let same : worth % 16 ≡ worth = omega arith in simp same
+
 -- a digit is worth what it was made of
 pub worth-digit : (worth : ℕ) → worth < 16 → worthOf (digit worth) ≡ worth
-unfolding worthOf digit
+unfolding worthOf
 worth-digit worth below =
-    either (ltb worth 10)
+    rw (digit-is worth below)
+    (either (ltb worth 10)
     (λ e. let small = ltb-true worth 10 e in
     let a : leb 0x30 (0x30 + worth) ≡ true = le-leb 0x30 (0x30 + worth) (omega arith) in
     let b : leb (0x30 + worth) 0x39 ≡ true = le-leb (0x30 + worth) 0x39 (omega arith) in
@@ -90,13 +96,14 @@ worth-digit worth below =
     let b : leb (0x37 + worth) 0x39 ≡ false = lt-leb (0x37 + worth) 0x39 (omega arith) in
     let c : leb 0x41 (0x37 + worth) ≡ true = le-leb 0x41 (0x37 + worth) (omega arith) in
     let d : leb (0x37 + worth) 0x46 ≡ true = le-leb (0x37 + worth) 0x46 (omega arith) in
-    simp (e, a, b, c, d) (omega arith))
+    simp (e, a, b, c, d) (omega arith)))
 
 -- a byte that is worth something as a digit is that digit
 pub digit-worth : (byte : ℕ) → worthOf byte < 16 → digit (worthOf byte) ≡ byte
-unfolding worthOf digit
+unfolding worthOf
 digit-worth byte below =
-    either (between 0x30 0x39 byte)
+    rw (digit-is (worthOf byte) below)
+    (either (between 0x30 0x39 byte)
     (λ e.
     let a = leb-true 0x30 byte (and-left _ _ e) in
     let b = leb-true byte 0x39 (and-right (leb 0x30 byte) _ e) in
@@ -108,4 +115,4 @@ digit-worth byte below =
     let b = leb-true byte 0x46 (and-right (leb 0x41 byte) _ f) in
     let c : ltb (byte - 0x37) 10 ≡ false = le-ltb (byte - 0x37) 10 (omega arith) in
     simp (e, f, c) (omega arith))
-    (λ f. let no = simp (e, f) at below in absurd (omega arith)))
+    (λ f. let no = simp (e, f) at below in absurd (omega arith))))

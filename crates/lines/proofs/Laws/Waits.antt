@@ -22,7 +22,7 @@ begun place rest = cond (ltb (worthOf (textAt rest 0)) 10) (restOf (place + 1) (
 
 digit-above : (worth : ℕ) → 0x30 ≤ digit worth
 unfolding digit
-digit-above worth = either (ltb worth 10) (λ e. simp e (omega arith)) (λ e. simp e (omega arith))
+digit-above worth = either (ltb (worth % 16) 10) (λ e. simp e (omega arith)) (λ e. simp e (omega arith))
 
 may-follow : (value worth : ℕ) → 0 < value → worth < 10 → value * 10 + worth ≤ waitLimit → mayFollow value worth ≡ true
 unfolding mayFollow

@@ -1,30 +1,44 @@
--- Laws of a session: its text line by line, and its rows one by one.
+-- Laws of a session: its text line by line, its rows one by one, how it leaves the bench, and what it starts from.
 -- Assumes nothing.
-use mathlib.Core.Bool.{true, false, false≢true}
+use mathlib.Core.Bool.{true, false}
 use mathlib.Core.List.{List, [], _∷_, _++_, append-assoc}
 use mathlib.Core.Path.{_≡_, refl, ap}
 use Prim.Native.Nat.{ℕ, zero, suc, _+_, _<_, _≤_}
 use native.Mathlib.Omega.{arith}
 use native.Mathlib.Nat.{add-zero}
-use lib.ListN.{length, drop, length-drop}
+use lib.ListN.{length, drop, replicate, length-drop}
 use Rattle.controller.specs.declared.answers.Answer.{Answer}
 use Rattle.controller.specs.declared.answers.Answer.the-variants.{Done}
 use Rattle.controller.specs.Answers.{isDone, numberOf}
 use Rattle.controller.specs.declared.sent.Sent.{Sent}
 use Rattle.controller.specs.Runs.{State, decidedOf, after, toldOf, heard, ran}
 use Rattle.controller.proofs.Laws.Answers.{done-is}
+use Rattle.controller.specs.declared.decision.Outcome.{Outcome}
+use Rattle.controller.specs.declared.«record».Record.{Record}
+use Rattle.controller.specs.Bus.{whole, resetDecided, Performs}
+use Rattle.controller.specs.Cells.{onCell}
+use Rattle.controller.specs.Decision.{performed, blanked}
+use Rattle.controller.specs.Record.{sound, resetRecord, resetTime, halfSound}
+use Rattle.controller.proofs.Theorems.Sound.{transfer-keeps-sound}
 use Rattle.lines.specs.Reading.{lineOf}
-use Rattle.lines.specs.ReportText.{row}
+use Rattle.lines.specs.ReportText.{header, row}
 use Rattle.lines.proofs.Laws.Digits.{either}
 use Rattle.lines.proofs.Theorems.Read.{read-is-sayable}
 use Rattle.player.specs.Session.{Session, endedBy, following, sentOf, readUpTo, sessionOf}
-use Rattle.player.specs.Report.{rowsFrom, lastRow, rowsOf}
-use Rattle.player.specs.Playing.{rowAt}
+use Rattle.player.specs.Standing.{leaving}
+use Rattle.player.specs.Report.{rowAt, rowsFrom, lastRow, rowsOf, start}
 
 -- a line that stands has at least 7 bytes, all of them in the text
 pub line-long : (text : List ℕ) → isDone (lineOf text .answer) ≡ true → (7 ≤ lineOf text .length) × (lineOf text .length ≤ length text)
 line-long text done =
     let is = read-is-sayable text (done-is (lineOf text .answer) done) in (is .1, is .3)
+
+-- a line that stands keeps the record sound
+pub sent-sound : (state : State) (text : List ℕ) → isDone (lineOf text .answer) ≡ true → sound (state .rec) ≡ true
+    → sound (decidedOf state (sentOf (lineOf text)) .rec) ≡ true
+sent-sound state text good is =
+    transfer-keeps-sound (state .rec) (state .mem) (lineOf text .kind) (lineOf text .byte) (lineOf text .wait)
+    (read-is-sayable text (done-is (lineOf text .answer) good) .0 .is-byte) is
 
 -- more than enough fuel changes nothing
 read-fuel : (k j : ℕ) (text : List ℕ) → length text ≤ k → length text ≤ j → readUpTo k text ≡ readUpTo j text
@@ -81,3 +95,32 @@ unfolding rowsOf rowsFrom heard ran
 rows-more number state t s =
     let next : number + suc (length (s .sent)) ≡ number + 1 + length (s .sent) = omega arith in
     simp (next, append-assoc)
+
+-- no transfer leaves the controller as it is
+pub leaving-last : (number : ℕ) (state : State) (answer : Answer)
+    → leaving number state (endedBy answer) ≡ record { answer = answer; number = number; rec = state .rec; memory = state .mem }
+unfolding leaving ran
+leaving-last number state answer = simp add-zero
+
+-- one transfer more is one number more
+pub leaving-more : (number : ℕ) (state : State) (t : Sent) (s : Session)
+    → leaving number state (following t s) ≡ leaving (number + 1) (after state (decidedOf state t)) s
+unfolding leaving ran
+leaving-more number state t s =
+    let next : number + suc (length (s .sent)) ≡ number + 1 + length (s .sent) = omega arith in
+    simp next
+
+-- what a session starts from is sound
+pub start-sound : sound (start .rec) ≡ true
+unfolding sound resetRecord resetTime onCell halfSound
+start-sound = refl
+
+-- and a reset of 144 zeros makes it
+pub reset-starts : (rec : Record) {told : Outcome} {mem : List ℕ} → Performs (resetDecided rec (replicate 144 0)) (replicate 144 0) told mem
+    → record { rec = told .rec; mem = mem } ≡ start
+unfolding resetDecided whole performed blanked
+reset-starts rec {told} {mem} meets = simp (meets .told, meets .memory)
+
+pub header-length : length header ≡ 20
+unfolding header
+header-length = refl

@@ -6,19 +6,28 @@ use mathlib.Core.Path.{_≡_}
 use Prim.Native.Nat.{ℕ, zero, suc, _+_, _*_, _^_, _<_, _≤_}
 use native.Mathlib.Omega.{arith}
 use lib.ListN.{length, drop, length-append, length-drop}
-use Rattle.controller.specs.Record.{sound}
+use Rattle.controller.specs.declared.answers.Answer.{Answer}
+use Rattle.controller.specs.declared.«record».Record.{Record}
+use Rattle.controller.specs.Record.{sound, resetTime}
+use Rattle.controller.proofs.Laws.Answers.{number-below}
+use Rattle.controller.proofs.Laws.Record.{sound-busy}
 use Rattle.controller.specs.Runs.{State, decidedOf, after, toldOf}
-use Rattle.controller.specs.Answers.{isDone}
+use Rattle.controller.specs.Answers.{isDone, numberOf}
 use Rattle.lines.specs.Reading.{lineOf}
-use Rattle.lines.specs.ReportText.{header}
+use Rattle.lines.specs.ReportText.{header, row, rowSize}
+use Rattle.lines.proofs.Laws.Lengths.{row-fits}
 use Rattle.lines.proofs.Laws.Digits.{either}
 use Rattle.player.specs.Session.{sentOf, sessionOf}
-use Rattle.player.specs.Report.{rowsOf, start, report}
-use Rattle.player.specs.Playing.{rowAt}
+use Rattle.player.specs.Report.{rowAt, rowsOf, start, report}
 use Rattle.player.specs.Theorems.{ReportFits}
-use Rattle.player.proofs.Laws.Session.{line-long, session-none, session-more, session-bad, rows-none, rows-last, rows-more}
-use Rattle.player.proofs.Laws.Going.{row-small, sent-sound}
-use Rattle.player.proofs.Laws.Whole.{start-sound, header-length}
+use Rattle.player.proofs.Laws.Session.{line-long, sent-sound, start-sound, header-length, session-none, session-more, session-bad, rows-none, rows-last, rows-more}
+
+-- the row of a sound record fits
+row-small : (number : ℕ) (answer : Answer) (byte : ℕ) (rec : Record) → number < 10 ^ 20 → sound rec ≡ true
+    → length (row number (numberOf answer) byte (rec .busy)) ≤ rowSize
+unfolding resetTime
+row-small number answer byte rec few is =
+    row-fits number (numberOf answer) byte (rec .busy) few (omega (arith, number-below answer)) (omega (arith, sound-busy rec is))
 
 rows-fit : (k number : ℕ) (state : State) (text : List ℕ) → length text ≤ k → number + length text < 10 ^ 20 → sound (state .rec) ≡ true
     → length (rowsOf number state (sessionOf text)) ≤ 6 * length text + 42

@@ -9,18 +9,19 @@ use native.Mathlib.Omega.{arith}
 use lib.ListN.{length, drop, length-append, length-drop}
 use lib.Seq.{drop-append-seam}
 use Rattle.controller.specs.declared.answers.Answer.the-variants.{Done, BadLine}
-use Rattle.controller.specs.Answers.{isDone, numberOf}
+use Rattle.controller.specs.Answers.{isDone}
 use Rattle.controller.specs.declared.sent.Sent.{Sent}
 use Rattle.lines.specs.declared.reader.Line.{Line}
-use Rattle.lines.specs.Line.{line}
+use Rattle.lines.specs.Line.{line, linesOf}
 use Rattle.lines.specs.Reading.{lineOf}
+use Rattle.lines.specs.Theorems.{AllSayable}
 use Rattle.lines.proofs.Laws.Digits.{either}
 use Rattle.lines.proofs.Laws.Lengths.{line-length}
 use Rattle.lines.proofs.Theorems.Written.{written-reads-back}
 use Rattle.lines.proofs.Theorems.Read.{reader-answers}
 use Rattle.player.specs.Session.{Session, following, sentOf, sessionOf}
 use Rattle.player.specs.Report.{lastRow, rowsOf, report}
-use Rattle.player.specs.Theorems.{linesOf, AllSayable, SessionReadsBack, ReportTells, SessionEnds}
+use Rattle.player.specs.Theorems.{SessionReadsBack, ReportTells, SessionEnds}
 use Rattle.player.proofs.Laws.Session.{line-long, session-none, session-more, session-bad}
 
 is-done : isDone Done ≡ true

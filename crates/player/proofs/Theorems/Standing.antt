@@ -16,9 +16,7 @@ use Rattle.player.specs.Session.{sentOf, sessionOf}
 use Rattle.player.specs.Report.{start}
 use Rattle.player.specs.Standing.{leaving, standing}
 use Rattle.player.specs.Theorems.{OneStanding, StandingTold}
-use Rattle.player.proofs.Laws.Session.{line-long, session-none, session-more, session-bad}
-use Rattle.player.proofs.Laws.Going.{sent-sound}
-use Rattle.player.proofs.Laws.Whole.{start-sound}
+use Rattle.player.proofs.Laws.Session.{line-long, sent-sound, start-sound, session-none, session-more, session-bad}
 
 -- a controller with a sound record and a whole memory
 abbrev Good : State → Type 0

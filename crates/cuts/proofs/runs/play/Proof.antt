@@ -1,5 +1,4 @@
--- `cuts::runs::play` meets its contract: the measure is the records that are left, and the last lies below 468.
--- Assumes nothing.
+-- `cuts::runs::play` is safe and ends: the measure is the records that are left, and the last lies below 468.
 use Prim.Native.Nat.{_-_, _≤_}
 use borrow.Author.Needs.{needs}
 use Rattle.cuts.proofs.runs.play.Statement.{statement}

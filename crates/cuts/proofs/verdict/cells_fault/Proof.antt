@@ -1,5 +1,4 @@
--- `cuts::verdict::cells_fault` meets its contract: the measure is the cells that are left.
--- Assumes nothing.
+-- `cuts::verdict::cells_fault` is safe and ends: the measure is the cells that are left.
 use Prim.Native.Nat.{_-_, _≤_}
 use borrow.Author.Needs.{needs}
 use Rattle.cuts.proofs.verdict.cells_fault.Statement.{statement}

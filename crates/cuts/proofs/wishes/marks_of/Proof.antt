@@ -1,5 +1,4 @@
--- `cuts::wishes::marks_of` meets its contract: the measure is the cells that are left.
--- Assumes nothing.
+-- `cuts::wishes::marks_of` is safe and ends: the measure is the cells that are left.
 use Prim.Native.Nat.{_-_, _≤_}
 use borrow.Author.Needs.{needs}
 use Rattle.cuts.proofs.wishes.marks_of.Statement.{statement}

@@ -1,4 +1,5 @@
--- `dots::draw::cell_row` meets its contract: at each return what led there says which case of `cellRow` holds.
+-- `dots::draw::cell_row` meets its contract: a covered row is all five dots, any other that of the code in the cell, which is one
+-- of the 144 bytes.
 -- Assumes nothing.
 use Rattle.dots.specs.Picture.{cellRow}
 use mathlib.Core.Path.{sym, _∙_}

@@ -1,4 +1,4 @@
--- `dots::draw::cursor_sets` meets its contract: at each return what led there says what `cursorSets` is.
+-- `dots::draw::cursor_sets` meets its contract: by C first, the last row and the blinking are the two ways to be set.
 -- Assumes nothing.
 use Rattle.dots.specs.Picture.{cursorSets}
 use borrow.Author.Tests.{eq-eqb, ne-eqb}

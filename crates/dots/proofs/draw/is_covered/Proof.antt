@@ -1,4 +1,5 @@
--- `dots::draw::is_covered` meets its contract: at each return what led there says what `covered` is.
+-- `dots::draw::is_covered` meets its contract: the counter is on the cell and its cursor or blinking sets the row; a row below
+-- the height has a next one.
 -- Assumes nothing.
 use Rattle.dots.specs.Picture.{covered}
 use mathlib.Core.Path.{sym, _∙_}

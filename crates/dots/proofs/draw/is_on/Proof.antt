@@ -1,4 +1,5 @@
--- `dots::draw::is_on` meets its contract: in each arm the counter is of that case of `isOn`.
+-- `dots::draw::is_on` meets its contract: a counter on a display cell is compared with the cell, one on a pattern cell is on
+-- none.
 -- Assumes nothing.
 use Rattle.dots.specs.Picture.{isOn}
 use borrow.Author.Needs.{needs}
@@ -15,11 +16,9 @@ enum-told : tie.Need-enum-told
 enum-told c = search needs
 
 returns : tie.Need-returns
-unfolding isOn
 returns c = simp (c .before .counter .given .1)
 
 returns-2 : tie.Need-returns-2
-unfolding isOn
 returns-2 c = simp (c .enum-told .given .1)
 
 pub is-on-spec : {M : Type 1} → statement M

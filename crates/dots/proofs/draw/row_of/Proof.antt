@@ -1,4 +1,4 @@
--- `dots::draw::row_of` meets its contract: at each return what led there says which case of `rowOf` holds.
+-- `dots::draw::row_of` meets its contract: codes below 10h take the row of a pattern, all others that of the table.
 -- Assumes nothing.
 use Rattle.dots.specs.Picture.{rowOf}
 use borrow.Author.Tests.{lt-ltb, le-ltb}

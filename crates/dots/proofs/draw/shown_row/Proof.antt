@@ -1,4 +1,4 @@
--- `dots::draw::shown_row` meets its contract: in each arm what is shown is of that case of `shownRow`.
+-- `dots::draw::shown_row` meets its contract: a cell that is shown is one of the 80, and what is not driven has no dots.
 -- Assumes nothing.
 use Rattle.dots.specs.Picture.{shownRow}
 use borrow.Author.Needs.{needs}

@@ -1,5 +1,4 @@
--- `dots::geometry::cell_at` meets its contract: at each return N says how many lines are driven and how long they
--- are.
+-- `dots::geometry::cell_at` meets its contract: N=1 drives two lines of 40 cells, N=0 one of 80.
 -- Assumes nothing.
 use Rattle.controller.specs.Cells.{lineLength}
 use Rattle.dots.specs.Geometry.{drivenLines}
@@ -11,14 +10,12 @@ cell-in-requires : tie.Need-cell-in-requires
 cell-in-requires c κs = search needs
 
 returns : tie.Need-returns
-unfolding drivenLines lineLength
 returns c = simp (c .cell-in .ensures, c .before .if1 .taken)
 
 cell-in-requires-2 : tie.Need-cell-in-requires-2
 cell-in-requires-2 c κs = search needs
 
 returns-2 : tie.Need-returns-2
-unfolding drivenLines lineLength
 returns-2 c = simp (c .cell-in2 .ensures, c .before .if1 .left)
 
 pub cell-at-spec : {M : Type 1} → statement M

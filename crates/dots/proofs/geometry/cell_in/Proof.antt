@@ -1,4 +1,5 @@
--- `dots::geometry::cell_in` meets its contract: at each return what led there says which case of `cellIn` holds.
+-- `dots::geometry::cell_in` meets its contract: a driven line starts at a multiple of the length, and the rest of the division
+-- stays within it: no sum is large.
 -- Assumes nothing.
 use Rattle.dots.specs.Geometry.{cellIn}
 use borrow.Author.Tests.{lt-ltb, le-ltb}

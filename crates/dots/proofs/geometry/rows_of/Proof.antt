@@ -1,4 +1,4 @@
--- `dots::geometry::rows_of` meets its contract.
+-- `dots::geometry::rows_of` meets its contract: `height` is the number that it returns.
 -- Assumes nothing.
 use Rattle.dots.specs.Geometry.{height}
 use mathlib.Core.Path.{refl}

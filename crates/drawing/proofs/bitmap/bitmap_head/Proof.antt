@@ -1,6 +1,5 @@
--- `drawing::bitmap::bitmap_head` meets its contract: each return follows from the tests and the calls before it.
+-- `drawing::bitmap::bitmap_head` meets its contract: eight pixels for each column and row of a small grid are numbers that fit.
 -- Assumes nothing.
-use Rattle.drawing.specs.Bitmap.{bitmapHead}
 use native.Mathlib.Omega.{arith}
 use borrow.Author.Needs.{needs}
 use Rattle.drawing.proofs.Laws.Grid.{last-x-most, last-y-most}
@@ -11,25 +10,24 @@ last-x-requires : tie.Need-last-x-requires
 last-x-requires c κs = search needs
 
 add-head-for : tie.Need-add-head-for
-add-head-for c = omega (arith, c .last-x .ensures, last-x-most (c .before .args .size) (c .before .pre))
+add-head-for c = omega (arith, c .last-x .ensures, last-x-most (c .before .args .grid) (c .before .pre))
 
 mul-head-for : tie.Need-mul-head-for
-mul-head-for c = omega (arith, c .last-x .ensures, last-x-most (c .before .args .size) (c .before .pre))
+mul-head-for c = omega (arith, c .last-x .ensures, last-x-most (c .before .args .grid) (c .before .pre))
 
 last-y-requires : tie.Need-last-y-requires
 last-y-requires c κs = search needs
 
 add-head-for-2 : tie.Need-add-head-for-2
-add-head-for-2 c = omega (arith, c .last-y .ensures, last-y-most (c .before .before .args .size) (c .before .before .pre))
+add-head-for-2 c = omega (arith, c .last-y .ensures, last-y-most (c .before .before .args .grid) (c .before .before .pre))
 
 mul-head-for-2 : tie.Need-mul-head-for-2
-mul-head-for-2 c = omega (arith, c .last-y .ensures, last-y-most (c .before .before .args .size) (c .before .before .pre))
+mul-head-for-2 c = omega (arith, c .last-y .ensures, last-y-most (c .before .before .args .grid) (c .before .before .pre))
 
 head-for-requires : tie.Need-head-for-requires
 head-for-requires c κs = search needs
 
 returns : tie.Need-returns
-unfolding bitmapHead
 returns c = simp (c .head-for .ensures, c .before .last-y .ensures, c .before .before .last-x .ensures)
 
 pub bitmap-head-spec : {M : Type 1} → statement M

@@ -1,7 +1,5 @@
--- `drawing::bitmap::head_for` meets its contract: each return follows from the tests and the calls before it.
+-- `drawing::bitmap::head_for` meets its contract: the four digits of width and height stand between the words of the head.
 -- Assumes nothing.
-use Rattle.drawing.specs.Bitmap.{headFor}
-use Rattle.drawing.specs.Numbers.{fourDigits}
 use borrow.Author.Needs.{needs}
 use Rattle.drawing.proofs.bitmap.head_for.Statement.{statement}
 use Rattle.drawing.proofs.bitmap.head_for.Tie as tie
@@ -37,7 +35,6 @@ array-read-t29 : tie.Need-array-read-t29
 array-read-t29 c = search needs
 
 returns : tie.Need-returns
-unfolding headFor fourDigits
 returns c = simp (c .four-digits2 .ensures, c .before .four-digits .ensures)
 
 pub head-for-spec : {M : Type 1} → statement M

@@ -1,4 +1,5 @@
--- `drawing::bitmap::pixels_at` meets its contract: each return follows from the tests and the calls before it.
+-- `drawing::bitmap::pixels_at` meets its contract: the last of eight rows of pixels is empty, and the others show the place of
+-- the grid.
 -- Assumes nothing.
 use Rattle.drawing.specs.Bitmap.{pixelsAt}
 use borrow.Author.Tests.{eq-eqb, ne-eqb}

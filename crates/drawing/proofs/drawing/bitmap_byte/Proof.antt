@@ -1,4 +1,4 @@
--- `drawing::drawing::bitmap_byte` meets its contract: each return follows from the tests and the calls before it.
+-- `drawing::drawing::bitmap_byte` meets its contract: past the head, a place of the bitmap has a small column and row.
 -- Assumes nothing.
 use Rattle.drawing.specs.Drawing.{bitmapByte}
 use borrow.Author.Tests.{lt-ltb, le-ltb}
@@ -21,7 +21,7 @@ last-x-requires : tie.Need-last-x-requires
 last-x-requires c κs = search needs
 
 add-width : tie.Need-add-width
-add-width c = omega (arith, c .last-x .ensures, last-x-most (c .before .before .before .args .size) (c .before .before .before .pre .0))
+add-width c = omega (arith, c .last-x .ensures, last-x-most (c .before .before .before .args .grid) (c .before .before .before .pre .0))
 
 rem-pixels-at : tie.Need-rem-pixels-at
 rem-pixels-at c = search needs
@@ -34,8 +34,8 @@ pixels-at-requires c κs =
     let start = c .before .before .before in
     let place = start .args .place in (
       start .pre .0,
-      rw (c .last-x .ensures) (pixel-column (start .args .size) (start .pre .0) (place - 13)),
-      rw (c .last-x .ensures) (pixel-row (start .args .size) (start .pre .0) place (c .before .if1 .left) (start .pre .1)),
+      rw (c .last-x .ensures) (pixel-column (start .args .grid) (start .pre .0) (place - 13)),
+      rw (c .last-x .ensures) (pixel-row (start .args .grid) (start .pre .0) place (c .before .if1 .left) (start .pre .1)),
     )
 
 returns-2 : tie.Need-returns-2

@@ -1,4 +1,4 @@
--- `drawing::drawing::bitmap_length` meets its contract: each return follows from the tests and the calls before it.
+-- `drawing::drawing::bitmap_length` meets its contract: the pixels of a small grid are at most 48,200 bytes.
 -- Assumes nothing.
 use Rattle.drawing.specs.Drawing.{bitmapLength}
 use native.Mathlib.Omega.{arith}
@@ -12,24 +12,24 @@ last-x-requires : tie.Need-last-x-requires
 last-x-requires c κs = search needs
 
 add-result : tie.Need-add-result
-add-result c = omega (arith, c .last-x .ensures, last-x-most (c .before .args .size) (c .before .pre))
+add-result c = omega (arith, c .last-x .ensures, last-x-most (c .before .args .grid) (c .before .pre))
 
 last-y-requires : tie.Need-last-y-requires
 last-y-requires c κs = search needs
 
 add-result-2 : tie.Need-add-result-2
-add-result-2 c = omega (arith, c .last-y .ensures, last-y-most (c .before .before .args .size) (c .before .before .pre))
+add-result-2 c = omega (arith, c .last-y .ensures, last-y-most (c .before .before .args .grid) (c .before .before .pre))
 
 mul-result : tie.Need-mul-result
-mul-result c = omega (arith, c .last-y .ensures, last-y-most (c .before .before .args .size) (c .before .before .pre))
+mul-result c = omega (arith, c .last-y .ensures, last-y-most (c .before .before .args .grid) (c .before .before .pre))
 
 mul-result-2 : tie.Need-mul-result-2
 mul-result-2 c =
-    rw (c .before .last-x .ensures, c .last-y .ensures) (omega (arith, pixels-most (c .before .before .args .size) (c .before .before .pre)))
+    rw (c .before .last-x .ensures, c .last-y .ensures) (omega (arith, pixels-most (c .before .before .args .grid) (c .before .before .pre)))
 
 add-result-3 : tie.Need-add-result-3
 add-result-3 c =
-    rw (c .before .last-x .ensures, c .last-y .ensures) (omega (arith, pixels-most (c .before .before .args .size) (c .before .before .pre)))
+    rw (c .before .last-x .ensures, c .last-y .ensures) (omega (arith, pixels-most (c .before .before .args .grid) (c .before .before .pre)))
 
 returns : tie.Need-returns
 unfolding bitmapLength

@@ -1,4 +1,4 @@
--- `drawing::drawing::cells_byte` meets its contract: each return follows from the tests and the calls before it.
+-- `drawing::drawing::cells_byte` meets its contract: the legend ends where the listing starts.
 -- Assumes nothing.
 use Rattle.drawing.specs.Drawing.{cellsByte}
 use borrow.Author.Tests.{lt-ltb, le-ltb}

@@ -4,7 +4,6 @@
 use borrow.Author.Tests.{not-true, not-false}
 use mathlib.Core.Path.{sym, _∙_}
 use denote.Ref.{now}
-use Rattle.controller.proofs.Laws.Record.{sound-shift}
 use Rattle.drawing.proofs.Laws.Answers.{refused-drawn, seen, seen-small, taken-drawn}
 use borrow.Author.Needs.{needs}
 use Rattle.drawing.proofs.drawing.draw.Statement.{statement}
@@ -29,7 +28,7 @@ returns c =
     let start = taken .before .before .before .before in
     let told = taken .picture .ensures .told in
     let not-done = sym (asked .is-done .ensures) ∙ not-true _ (c .before .if1 .taken) in
-    rw (c .refused .ensures, told) (refused-drawn _ _ _ _ _ _ _ (rw told at not-done))
+    rw (c .refused .ensures, told) (refused-drawn _ _ _ _ _ _ (rw told at not-done))
 
 rows-of-requires : tie.Need-rows-of-requires
 rows-of-requires c κs = search needs
@@ -43,8 +42,8 @@ draw-taken-requires c κs =
     let taken = asked .before .before in
     let start = taken .before .before .before .before in
     let done = sym (asked .is-done .ensures) ∙ not-false _ (c .before .before .before .before .if1 .left) in
-    let shown = seen (start .args .rec) (now (start .args .memory)) (start .args .columns) (start .args .lines) (rw (taken .picture .ensures .told) at done) in
-    (rw (c .before .before .rows-of .ensures) (seen-small _ _ _ _ shown), sound-shift (start .args .rec) (shown .sound))
+    let shown = seen (start .args .rec) (now (start .args .memory)) (start .args .size) (rw (taken .picture .ensures .told) at done) in
+    rw (c .before .before .rows-of .ensures) (seen-small _ _ _ shown)
 
 same-length : tie.Need-same-length
 same-length c = search needs
@@ -56,8 +55,8 @@ returns-2 c =
     let taken = asked .before .before in
     let start = taken .before .before .before .before in
     let done = sym (asked .is-done .ensures) ∙ not-false _ (drawn .before .before .before .before .before .if1 .left) in
-    let shown = seen (start .args .rec) (now (start .args .memory)) (start .args .columns) (start .args .lines) (rw (taken .picture .ensures .told) at done) in
-    taken-drawn _ _ _ _ _ _ _ shown (rw (drawn .before .before .before .rows-of .ensures, taken .picture .ensures .out) at (drawn .draw-taken .ensures))
+    let shown = seen (start .args .rec) (now (start .args .memory)) (start .args .size) (rw (taken .picture .ensures .told) at done) in
+    taken-drawn _ _ _ _ _ _ shown (rw (drawn .before .before .before .rows-of .ensures, taken .picture .ensures .out) at (drawn .draw-taken .ensures))
 
 pub draw-spec : {M : Type 1} → statement M
 draw-spec =

@@ -1,4 +1,5 @@
--- `drawing::drawing::fill` meets its contract: the bytes before `place` are painted; the measure is what is left.
+-- `drawing::drawing::fill` meets its contract. Invariant: the bytes before `place` are drawn, the others as found. Measure: the
+-- bytes that are left.
 -- Assumes nothing.
 use mathlib.Core.Path.{_≡_, sym, ap, _∙_}
 use mathlib.Core.List.{List}
@@ -18,24 +19,24 @@ painted-first : (f : ℕ → ℕ) (out : List ℕ) (place : ℕ) {now : List ℕ
 painted-first f out place {now} {byte} was is = rw zero-add at (painted-next f 0 out place byte now was (rw zero-add is))
 
 abbrev Inv-loop : tie.InvT-loop
-Inv-loop form dots memory rec size count out₀ place₀ out place =
-    (place ≤ count) × (out ≡ painted (drawnByte form dots memory rec size) 0 place out₀)
+Inv-loop form dots memory rec grid count out₀ place₀ out place =
+    (place ≤ count) × (out ≡ painted (drawnByte form dots memory rec grid) 0 place out₀)
 
 abbrev μ-loop : tie.MeasureT-loop
-μ-loop form dots memory rec size count out₀ place₀ out place = count - place
+μ-loop form dots memory rec grid count out₀ place₀ out place = count - place
 
 loop-holds : tie.Need-loop-holds Inv-loop μ-loop
 loop-holds c = (omega arith, painted-none _ _ _)
 
-drawn-byte-requires : tie.Need-byte-at-requires Inv-loop μ-loop
+drawn-byte-requires : tie.Need-drawn-byte-requires Inv-loop μ-loop
 drawn-byte-requires c κs =
     let start = c .before .before .before .before .before in
-    (start .pre .0, start .pre .1, rw (sym (start .pre .2)) (c .loop-test .taken))
+    (start .pre .0, rw (sym (start .pre .1)) (c .loop-test .taken))
 
 slice-write-out : tie.Need-slice-write-out Inv-loop μ-loop
 slice-write-out c =
     rw (ap length (c .before .before .loop .inv .1) ∙ painted-length _ _ _ (c .before .before .loop .place))
-    (omega (arith, c .before .before .before .before .before .before .pre .3))
+    (omega (arith, c .before .before .before .before .before .before .pre .2))
 
 add-place : tie.Need-add-place Inv-loop μ-loop
 add-place c = omega arith
@@ -47,7 +48,7 @@ loop-again : tie.Need-loop-again Inv-loop μ-loop
 loop-again c =
     let args = c .before .before .before .before .before .before .args in (
       omega arith,
-      painted-first (drawnByte (args .form) (args .dots .now) (args .memory .now) (args .rec) (args .size)) (args .out .now) (c .before .before .loop .place)
+      painted-first (drawnByte (args .form) (args .dots .now) (args .memory .now) (args .rec) (args .grid)) (args .out .now) (c .before .before .loop .place)
           (c .before .before .loop .inv .1) (c .drawn-byte .ensures),
     )
 

@@ -1,4 +1,4 @@
--- `drawing::drawing::frame_length` meets its contract: each return follows from the tests and the calls before it.
+-- `drawing::drawing::frame_length` meets its contract: a small grid has at most 6,050 places, its edges counted.
 -- Assumes nothing.
 use Rattle.drawing.specs.Drawing.{frameLength}
 use native.Mathlib.Omega.{arith}
@@ -15,12 +15,12 @@ last-y-requires : tie.Need-last-y-requires
 last-y-requires c κs = search needs
 
 add-result : tie.Need-add-result
-add-result c = omega (arith, c .last-y .ensures, last-y-most (c .before .before .args .size) (c .before .before .pre))
+add-result c = omega (arith, c .last-y .ensures, last-y-most (c .before .before .args .grid) (c .before .before .pre))
 
 mul-result : tie.Need-mul-result
 mul-result c =
     let start = c .before .before in
-    rw (c .before .frame-width .ensures, c .last-y .ensures) (omega (arith, frame-product (start .args .size) (start .pre)))
+    rw (c .before .frame-width .ensures, c .last-y .ensures) (omega (arith, frame-product (start .args .grid) (start .pre)))
 
 returns : tie.Need-returns
 unfolding frameLength

@@ -1,4 +1,5 @@
--- `drawing::drawing::frame_width` meets its contract: each return follows from the tests and the calls before it.
+-- `drawing::drawing::frame_width` meets its contract: a small grid has at most 242 columns, the edge and the end of the line
+-- counted.
 -- Assumes nothing.
 use Rattle.drawing.specs.Drawing.{frameWidth}
 use native.Mathlib.Omega.{arith}
@@ -11,7 +12,7 @@ last-x-requires : tie.Need-last-x-requires
 last-x-requires c κs = search needs
 
 add-result : tie.Need-add-result
-add-result c = omega (arith, c .last-x .ensures, last-x-most (c .before .args .size) (c .before .pre))
+add-result c = omega (arith, c .last-x .ensures, last-x-most (c .before .args .grid) (c .before .pre))
 
 returns : tie.Need-returns
 unfolding frameWidth

@@ -1,6 +1,5 @@
--- `drawing::drawing::head_byte` meets its contract: each return follows from the tests and the calls before it.
+-- `drawing::drawing::head_byte` meets its contract: the head that was laid out is read at the place.
 -- Assumes nothing.
-use Rattle.drawing.specs.Bitmap.{bitmapHead}
 use borrow.Author.Needs.{needs}
 use Rattle.drawing.proofs.drawing.head_byte.Statement.{statement}
 use Rattle.drawing.proofs.drawing.head_byte.Tie as tie
@@ -15,7 +14,6 @@ byte-in-requires : tie.Need-byte-in-requires
 byte-in-requires c κs = search needs
 
 returns : tie.Need-returns
-unfolding bitmapHead
 returns c = simp (c .byte-in .ensures, c .before .before .bitmap-head .ensures)
 
 pub head-byte-spec : {M : Type 1} → statement M

@@ -1,6 +1,5 @@
--- `drawing::drawing::length_of` meets its contract: each return follows from the tests and the calls before it.
+-- `drawing::drawing::length_of` meets its contract: the parts of each form add up to a length that fits.
 -- Assumes nothing.
-use Rattle.drawing.specs.Drawing.{lengthOf}
 use native.Mathlib.Omega.{arith}
 use Rattle.drawing.proofs.Laws.Drawing.{frame-most}
 use borrow.Author.Needs.{needs}
@@ -14,7 +13,7 @@ frame-length-requires : tie.Need-frame-length-requires
 frame-length-requires c κs = search needs
 
 add-result : tie.Need-add-result
-add-result c = omega (arith, c .frame-length .ensures, frame-most (c .before .before .before .args .size) (c .before .before .before .pre))
+add-result c = omega (arith, c .frame-length .ensures, frame-most (c .before .before .before .args .grid) (c .before .before .before .pre))
 
 enum-told-2 : tie.Need-enum-told-2
 enum-told-2 c = search needs
@@ -32,15 +31,12 @@ add-result-3 : tie.Need-add-result-3
 add-result-3 c = search needs
 
 returns : tie.Need-returns
-unfolding lengthOf
 returns c = simp (c .frame-length .ensures, c .before .enum-told .given .1)
 
 returns-2 : tie.Need-returns-2
-unfolding lengthOf
 returns-2 c = simp (c .bitmap-length .ensures, c .before .enum-told2 .given .1)
 
 returns-3 : tie.Need-returns-3
-unfolding lengthOf
 returns-3 c = simp (c .enum-told3 .given .1)
 
 pub length-of-spec : {M : Type 1} → statement M

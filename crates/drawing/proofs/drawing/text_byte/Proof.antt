@@ -1,8 +1,9 @@
--- `drawing::drawing::text_byte` meets its contract: each return follows from the tests and the calls before it.
+-- `drawing::drawing::text_byte` meets its contract: a place within the frame's length has a small column and row in it, and a
+-- later one is of the state's line.
 -- Assumes nothing.
+use Rattle.drawing.proofs.Laws.Drawing.{width-some, frame-column, frame-row}
 use Rattle.drawing.specs.Drawing.{textByte}
 use borrow.Author.Tests.{lt-ltb, le-ltb}
-use Rattle.drawing.proofs.Laws.Drawing.{width-some, frame-column, frame-row}
 use borrow.Author.Needs.{needs}
 use Rattle.drawing.proofs.drawing.text_byte.Statement.{statement}
 use Rattle.drawing.proofs.drawing.text_byte.Tie as tie
@@ -14,40 +15,31 @@ frame-width-requires : tie.Need-frame-width-requires
 frame-width-requires c κs = search needs
 
 rem-frame-at : tie.Need-rem-frame-at
-rem-frame-at c = rw (c .frame-width .ensures) (width-some (c .before .before .before .before .args .size))
-
-frame-width-requires-2 : tie.Need-frame-width-requires-2
-frame-width-requires-2 c κs = search needs
+rem-frame-at c = rw (c .frame-width .ensures) (width-some (c .before .before .before .before .args .grid))
 
 div-frame-at : tie.Need-div-frame-at
-div-frame-at c = rw (c .frame-width2 .ensures) (width-some (c .before .before .before .before .before .args .size))
+div-frame-at c = rw (c .frame-width .ensures) (width-some (c .before .before .before .before .args .grid))
 
 frame-at-requires : tie.Need-frame-at-requires
 frame-at-requires c κs =
-    let start = c .before .before .before .before .before in
-    let size = start .args .size in
-    let inside = rw (c .before .before .before .frame-length .ensures) at (c .before .before .if1 .taken) in (
+    let start = c .before .before .before .before in
+    let grid = start .args .grid in
+    let inside = rw (c .before .before .frame-length .ensures) at (c .before .if1 .taken) in (
       start .pre,
-      rw (c .before .frame-width .ensures) (frame-column size (start .pre) (start .args .place)),
-      rw (c .frame-width2 .ensures) (frame-row size (start .pre) (start .args .place) inside),
+      rw (c .frame-width .ensures) (frame-column grid (start .pre) (start .args .place)),
+      rw (c .frame-width .ensures) (frame-row grid (start .pre) (start .args .place) inside),
     )
 
 returns : tie.Need-returns
 unfolding textByte
-returns c = simp (c .frame-at .ensures, c .before .frame-width2 .ensures, c .before .before .frame-width .ensures, lt-ltb _ _ (rw (c .before .before .before .before .frame-length .ensures) at (c .before .before .before .if1 .taken)))
-
-frame-length-requires-2 : tie.Need-frame-length-requires-2
-frame-length-requires-2 c κs = search needs
-
-sub-state-byte : tie.Need-sub-state-byte
-sub-state-byte c = search needs
+returns c = simp (c .frame-at .ensures, c .before .frame-width .ensures, lt-ltb _ _ (rw (c .before .before .before .frame-length .ensures) at (c .before .before .if1 .taken)))
 
 state-byte-requires : tie.Need-state-byte-requires
 state-byte-requires c κs = search needs
 
 returns-2 : tie.Need-returns-2
 unfolding textByte
-returns-2 c = simp (c .state-byte .ensures, c .before .frame-length2 .ensures, le-ltb _ _ (rw (c .before .before .before .frame-length .ensures) at (c .before .before .if1 .left)))
+returns-2 c = simp (c .state-byte .ensures, le-ltb _ _ (rw (c .before .before .frame-length .ensures) at (c .before .if1 .left)), c .before .before .frame-length .ensures)
 
 pub text-byte-spec : {M : Type 1} → statement M
 text-byte-spec =
@@ -56,11 +48,8 @@ text-byte-spec =
     frame-length-requires
     frame-width-requires
     rem-frame-at
-    frame-width-requires-2
     div-frame-at
     frame-at-requires
     returns
-    frame-length-requires-2
-    sub-state-byte
     state-byte-requires
     returns-2)

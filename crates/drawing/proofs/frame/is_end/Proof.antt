@@ -1,16 +1,13 @@
--- `drawing::frame::is_end` meets its contract: each return follows from the tests and the calls before it.
+-- `drawing::frame::is_end` meets its contract: the first place is tested, then the last.
 -- Assumes nothing.
-use Rattle.drawing.specs.Frame.{isEnd}
 use borrow.Author.Tests.{eq-eqb, ne-eqb}
 use Rattle.drawing.proofs.frame.is_end.Statement.{statement}
 use Rattle.drawing.proofs.frame.is_end.Tie as tie
 
 returns : tie.Need-returns
-unfolding isEnd
 returns c = simp (eq-eqb _ _ (c .if1 .taken))
 
 returns-2 : tie.Need-returns-2
-unfolding isEnd
 returns-2 c = simp (ne-eqb _ _ (c .if1 .left))
 
 pub is-end-spec : {M : Type 1} → statement M

@@ -1,4 +1,4 @@
--- `drawing::grid::is_between` meets its contract: each return follows from the tests and the calls before it.
+-- `drawing::grid::is_between` meets its contract: the empty column is tested, then the empty row.
 -- Assumes nothing.
 use Rattle.drawing.specs.Grid.{isBetween}
 use borrow.Author.Tests.{eq-eqb, ne-eqb}

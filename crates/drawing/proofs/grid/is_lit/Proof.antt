@@ -1,4 +1,5 @@
--- `drawing::grid::is_lit` meets its contract: each return follows from the tests and the calls before it.
+-- `drawing::grid::is_lit` meets its contract: between characters no dot is lit; elsewhere the byte and the dot of the place are
+-- asked for.
 -- Assumes nothing.
 use Rattle.drawing.specs.Grid.{isLit}
 use mathlib.Core.Path.{sym, _∙_}

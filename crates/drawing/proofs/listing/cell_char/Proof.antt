@@ -1,4 +1,4 @@
--- `drawing::listing::cell_char` meets its contract: each return follows from the tests and the calls before it.
+-- `drawing::listing::cell_char` meets its contract: the place in the cell's four bytes is 0, 1, 2 or any other.
 -- Assumes nothing.
 use Rattle.drawing.specs.Listing.{cellChar}
 use borrow.Author.Tests.{eq-eqb, ne-eqb}
@@ -17,19 +17,19 @@ returns-2 : tie.Need-returns-2
 unfolding cellChar
 returns-2 c = simp (c .mark-for .ensures, eq-eqb _ _ (c .before .if2 .taken), ne-eqb _ _ (c .before .before .if1 .left))
 
-digit-for-requires : tie.Need-digit-for-requires
-digit-for-requires c κs = search needs
+hex-digit-requires : tie.Need-hex-digit-requires
+hex-digit-requires c κs = search needs
 
 returns-3 : tie.Need-returns-3
 unfolding cellChar
-returns-3 c = simp (c .digit-for .ensures, eq-eqb _ _ (c .before .if3 .taken), ne-eqb _ _ (c .before .before .if2 .left), ne-eqb _ _ (c .before .before .before .if1 .left))
+returns-3 c = simp (c .hex-digit .ensures, eq-eqb _ _ (c .before .if3 .taken), ne-eqb _ _ (c .before .before .if2 .left), ne-eqb _ _ (c .before .before .before .if1 .left))
 
-digit-for-requires-2 : tie.Need-digit-for-requires-2
-digit-for-requires-2 c κs = search needs
+hex-digit-requires-2 : tie.Need-hex-digit-requires-2
+hex-digit-requires-2 c κs = search needs
 
 returns-4 : tie.Need-returns-4
 unfolding cellChar
-returns-4 c = simp (c .digit-for2 .ensures, ne-eqb _ _ (c .before .if3 .left), ne-eqb _ _ (c .before .before .if2 .left), ne-eqb _ _ (c .before .before .before .if1 .left))
+returns-4 c = simp (c .hex-digit2 .ensures, ne-eqb _ _ (c .before .if3 .left), ne-eqb _ _ (c .before .before .if2 .left), ne-eqb _ _ (c .before .before .before .if1 .left))
 
 pub cell-char-spec : {M : Type 1} → statement M
 cell-char-spec =
@@ -38,7 +38,7 @@ cell-char-spec =
     returns
     mark-for-requires
     returns-2
-    digit-for-requires
+    hex-digit-requires
     returns-3
-    digit-for-requires-2
+    hex-digit-requires-2
     returns-4)

@@ -1,6 +1,5 @@
--- `drawing::listing::cell_field` meets its contract: each return follows from the tests and the calls before it.
+-- `drawing::listing::cell_field` meets its contract: the mark, the byte and the place are those of the cell.
 -- Assumes nothing.
-use Rattle.drawing.specs.Listing.{cellField}
 use borrow.Author.Needs.{needs}
 use Rattle.drawing.proofs.listing.cell_field.Statement.{statement}
 use Rattle.drawing.proofs.listing.cell_field.Tie as tie
@@ -15,8 +14,8 @@ cell-char-requires : tie.Need-cell-char-requires
 cell-char-requires c κs = search needs
 
 returns : tie.Need-returns
-unfolding cellField
 returns c = simp (c .cell-char .ensures, c .before .byte-in .ensures, c .before .before .is-spare .ensures)
 
 pub cell-field-spec : {M : Type 1} → statement M
-cell-field-spec = tie.close (tie.spec is-spare-requires byte-in-requires cell-char-requires returns)
+cell-field-spec =
+    tie.close (tie.spec is-spare-requires byte-in-requires cell-char-requires returns)

@@ -1,7 +1,5 @@
--- `drawing::listing::display_label` meets its contract: each return follows from the tests and the calls before it.
+-- `drawing::listing::display_label` meets its contract: the word, and the two places of the number.
 -- Assumes nothing.
-use Rattle.drawing.specs.Listing.{displayLabel}
-use Rattle.drawing.specs.Numbers.{twoWide}
 use borrow.Author.Needs.{needs}
 use Rattle.drawing.proofs.listing.display_label.Statement.{statement}
 use Rattle.drawing.proofs.listing.display_label.Tie as tie
@@ -16,7 +14,6 @@ array-read-t9 : tie.Need-array-read-t9
 array-read-t9 c = search needs
 
 returns : tie.Need-returns
-unfolding displayLabel twoWide
 returns c = simp (c .two-wide .ensures)
 
 pub display-label-spec : {M : Type 1} → statement M

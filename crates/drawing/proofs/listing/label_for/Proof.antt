@@ -1,4 +1,4 @@
--- `drawing::listing::label_for` meets its contract: each return follows from the tests and the calls before it.
+-- `drawing::listing::label_for` meets its contract: the first five lines are of display cells, the others of pattern cells.
 -- Assumes nothing.
 use Rattle.drawing.specs.Listing.{labelFor}
 use borrow.Author.Tests.{lt-ltb, le-ltb}

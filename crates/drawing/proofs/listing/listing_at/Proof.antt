@@ -1,4 +1,5 @@
--- `drawing::listing::listing_at` meets its contract: each return follows from the tests and the calls before it.
+-- `drawing::listing::listing_at` meets its contract: the end of the line is tested, then the label; what is left is one of
+-- sixteen cells.
 -- Assumes nothing.
 use Rattle.drawing.specs.Listing.{listingAt}
 use borrow.Author.Tests.{lt-ltb, le-ltb, eq-eqb, ne-eqb}
@@ -20,13 +21,13 @@ returns-2 : tie.Need-returns-2
 unfolding listingAt
 returns-2 c = simp (c .label-for .ensures, lt-ltb _ _ (c .before .if2 .taken), ne-eqb _ _ (c .before .before .if1 .left))
 
-mul-cell-at : tie.Need-mul-cell-at
-mul-cell-at c = search needs
+mul-cell-field : tie.Need-mul-cell-field
+mul-cell-field c = search needs
 
-add-cell-at : tie.Need-add-cell-at
-add-cell-at c = search needs
+add-cell-field : tie.Need-add-cell-field
+add-cell-field c = search needs
 
-cell-field-requires : tie.Need-cell-at-requires
+cell-field-requires : tie.Need-cell-field-requires
 cell-field-requires c κs = search needs
 
 returns-3 : tie.Need-returns-3
@@ -41,7 +42,7 @@ listing-at-spec =
     label-for-requires
     array-read-result
     returns-2
-    mul-cell-at
-    add-cell-at
+    mul-cell-field
+    add-cell-field
     cell-field-requires
     returns-3)

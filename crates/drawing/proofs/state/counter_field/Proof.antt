@@ -1,7 +1,6 @@
--- `drawing::state::counter_field` meets its contract: each return follows from the tests and the calls before it.
+-- `drawing::state::counter_field` meets its contract: the name's seven bytes and the number's two are stored where the blank
+-- field has room for them.
 -- Assumes nothing.
-use Rattle.drawing.specs.State.{counterField}
-use Rattle.drawing.specs.Numbers.{twoWide}
 use Rattle.drawing.proofs.Laws.Text.{memory-bytes}
 use borrow.Author.Needs.{needs}
 use Rattle.drawing.proofs.state.counter_field.Statement.{statement}
@@ -74,7 +73,6 @@ array-write-text-9 : tie.Need-array-write-text-9
 array-write-text-9 c = search needs
 
 returns : tie.Need-returns
-unfolding counterField twoWide
 returns c = simp (memory-bytes, c .before .before .two-wide .ensures, c .before .before .before .cell-of .ensures, c .before .before .before .before .memory-shown .ensures)
 
 pub counter-field-spec : {M : Type 1} → statement M

@@ -1,7 +1,6 @@
--- `drawing::state::half_shown` meets its contract: each return follows from the tests and the calls before it.
+-- `drawing::state::half_shown` meets its contract: each kind of half has the letter that session lines have for it.
 -- Assumes nothing.
 use Rattle.lines.specs.Line.{letterOf}
-use Rattle.drawing.specs.State.{halfShown}
 use borrow.Author.Needs.{needs}
 use Rattle.drawing.proofs.state.half_shown.Statement.{statement}
 use Rattle.drawing.proofs.state.half_shown.Tie as tie
@@ -34,23 +33,23 @@ read-shown-requires-2 : tie.Need-read-shown-requires-2
 read-shown-requires-2 c κs = search needs
 
 returns : tie.Need-returns
-unfolding halfShown letterOf
+unfolding letterOf
 returns c = simp (c .before .before .enum-told .given .1)
 
 returns-2 : tie.Need-returns-2
-unfolding halfShown letterOf
+unfolding letterOf
 returns-2 c = simp (c .write-shown .ensures, c .before .before .half .given .1)
 
 returns-3 : tie.Need-returns-3
-unfolding halfShown letterOf
+unfolding letterOf
 returns-3 c = simp (c .write-shown2 .ensures, c .before .before .half2 .given .1)
 
 returns-4 : tie.Need-returns-4
-unfolding halfShown letterOf
+unfolding letterOf
 returns-4 c = simp (c .read-shown .ensures, c .before .before .half3 .given .1)
 
 returns-5 : tie.Need-returns-5
-unfolding halfShown letterOf
+unfolding letterOf
 returns-5 c = simp (c .read-shown2 .ensures, c .before .before .half4 .given .1)
 
 pub half-shown-spec : {M : Type 1} → statement M

@@ -1,7 +1,6 @@
--- `drawing::state::last_fields` meets its contract: each return follows from the tests and the calls before it.
+-- `drawing::state::last_fields` meets its contract: the shift's two bytes, the busy time's five and the half's four are stored
+-- where the blank fields have room for them.
 -- Assumes nothing.
-use Rattle.drawing.specs.State.{lastFields}
-use Rattle.drawing.specs.Numbers.{twoWide, fourWide, fiveWide}
 use Rattle.drawing.proofs.Laws.Text.{half-bytes}
 use borrow.Author.Needs.{needs}
 use Rattle.drawing.proofs.state.last_fields.Statement.{statement}
@@ -89,7 +88,6 @@ array-write-text-11 : tie.Need-array-write-text-11
 array-write-text-11 c = search needs
 
 returns : tie.Need-returns
-unfolding lastFields twoWide fiveWide fourWide
 returns c = simp (half-bytes, c .padded-digit .ensures, c .before .before .before .half-shown .ensures, c .before .before .before .before .four-wide .ensures, c .before .before .before .before .before .two-wide .ensures)
 
 pub last-fields-spec : {M : Type 1} → statement M

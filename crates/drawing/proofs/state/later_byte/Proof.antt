@@ -1,4 +1,4 @@
--- `drawing::state::later_byte` meets its contract: each return follows from the tests and the calls before it.
+-- `drawing::state::later_byte` meets its contract: the counter's field is 20 bytes long, and the last ones stand behind it.
 -- Assumes nothing.
 use Rattle.drawing.specs.State.{counterField, lastFields}
 use Rattle.drawing.proofs.Laws.Text.{counter-length, first-byte, second-byte}

@@ -1,6 +1,5 @@
--- `drawing::state::memory_shown` meets its contract: each return follows from the tests and the calls before it.
+-- `drawing::state::memory_shown` meets its contract: each memory has its name.
 -- Assumes nothing.
-use Rattle.drawing.specs.State.{memoryShown}
 use borrow.Author.Needs.{needs}
 use Rattle.drawing.proofs.state.memory_shown.Statement.{statement}
 use Rattle.drawing.proofs.state.memory_shown.Tie as tie
@@ -12,11 +11,9 @@ enum-told-2 : tie.Need-enum-told-2
 enum-told-2 c = search needs
 
 returns : tie.Need-returns
-unfolding memoryShown
 returns c = simp (c .before .before .enum-told .given .1)
 
 returns-2 : tie.Need-returns-2
-unfolding memoryShown
 returns-2 c = simp (c .before .before .enum-told2 .given .1)
 
 pub memory-shown-spec : {M : Type 1} → statement M

@@ -1,15 +1,12 @@
--- `drawing::state::on_off` meets its contract: each return follows from the tests and the calls before it.
+-- `drawing::state::on_off` meets its contract: D chooses the word.
 -- Assumes nothing.
-use Rattle.drawing.specs.State.{onOff}
 use Rattle.drawing.proofs.state.on_off.Statement.{statement}
 use Rattle.drawing.proofs.state.on_off.Tie as tie
 
 returns : tie.Need-returns
-unfolding onOff
 returns c = simp (c .before .before .if1 .taken)
 
 returns-2 : tie.Need-returns-2
-unfolding onOff
 returns-2 c = simp (c .before .before .if1 .left)
 
 pub on-off-spec : {M : Type 1} → statement M

@@ -1,10 +1,11 @@
--- `drawing::state::shown_fields` meets its contract: each return follows from the tests and the calls before it.
+-- `drawing::state::shown_fields` meets its contract: the lines' digit and the display's three bytes are stored where the blank
+-- fields have room for them.
 -- Assumes nothing.
-use Rattle.drawing.specs.State.{shownFields}
 use mathlib.Core.List.{List, _∷_, _++_}
 use mathlib.Core.Path.{ap}
 use Prim.Native.Nat.{ℕ}
-use Rattle.drawing.specs.State.{linesShown, linesWord, displayWord}
+use Rattle.lines.specs.Text.{bytesOf}
+use Rattle.drawing.specs.State.{linesShown}
 use Rattle.drawing.proofs.Laws.Text.{on-off-is}
 use borrow.Author.Needs.{needs}
 use Rattle.drawing.proofs.state.shown_fields.Statement.{statement}
@@ -38,11 +39,10 @@ array-write-text-4 : tie.Need-array-write-text-4
 array-write-text-4 c = search needs
 
 returns : tie.Need-returns
-unfolding shownFields
 returns c =
     let start = c .before .before .before .before in
     simp (c .lines-shown .ensures, c .before .before .before .on-off .ensures)
-    (ap (λ (l : List ℕ). linesWord ++ (linesShown (start .args .rec .function .n) ∷ (displayWord ++ l))) (on-off-is (start .args .rec .control .d)))
+    (ap (λ (l : List ℕ). bytesOf "lines " ++ (linesShown (start .args .rec .function .n) ∷ (bytesOf "  display " ++ l))) (on-off-is (start .args .rec .control .d)))
 
 pub shown-fields-spec : {M : Type 1} → statement M
 shown-fields-spec =

@@ -1,4 +1,4 @@
--- `drawing::state::state_byte` meets its contract: each return follows from the tests and the calls before it.
+-- `drawing::state::state_byte` meets its contract: the first fields are 20 bytes long, and the others stand behind them.
 -- Assumes nothing.
 use Rattle.drawing.specs.State.{stateLine}
 use mathlib.Core.List.{_++_}

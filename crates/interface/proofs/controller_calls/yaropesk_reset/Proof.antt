@@ -1,10 +1,9 @@
--- `interface::controller_calls::yaropesk_reset` meets its contract: the refusals come in the order of `resetCall`.
+-- `interface::controller_calls::yaropesk_reset` meets its contract: a record of another length is told 1, then a memory of
+-- another length 2; else 24 bytes are reset.
 -- Assumes nothing.
-use Rattle.controller.specs.Answers.{numberOf}
-use Rattle.interface.proofs.Laws.Calls.{long}
 use Rattle.interface.specs.ControllerCalls.{resetCall}
-use borrow.Author.Tests.{not-true, not-false}
-use mathlib.Core.Path.{refl, sym, _∙_}
+use borrow.Author.Tests.{eqb-true, not-true, not-false}
+use mathlib.Core.Path.{sym, _∙_}
 use borrow.Author.Needs.{needs}
 use Rattle.interface.proofs.controller_calls.yaropesk_reset.Statement.{statement}
 use Rattle.interface.proofs.controller_calls.yaropesk_reset.Tie as tie
@@ -12,15 +11,21 @@ use Rattle.interface.proofs.controller_calls.yaropesk_reset.Tie as tie
 is-record-long-requires : tie.Need-is-record-long-requires
 is-record-long-requires c κs = search needs
 
+refused-requires : tie.Need-refused-requires
+refused-requires c κs = search needs
+
 same-length : tie.Need-same-length
 same-length c = search needs
 
 returns : tie.Need-returns
 unfolding resetCall
-returns c = simp (sym (c .before .is-record-long .ensures) ∙ not-true _ (c .if1 .taken)) (record { told = refl; rec = refl; memory = refl })
+returns c = simp (c .refused .ensures, sym (c .before .before .is-record-long .ensures) ∙ not-true _ (c .before .if1 .taken)) (search needs)
 
 is-whole-requires : tie.Need-is-whole-requires
 is-whole-requires c κs = search needs
+
+refused-requires-2 : tie.Need-refused-requires-2
+refused-requires-2 c κs = search needs
 
 same-length-2 : tie.Need-same-length-2
 same-length-2 c = search needs
@@ -30,11 +35,10 @@ same-length-3 c = search needs
 
 returns-2 : tie.Need-returns-2
 unfolding resetCall
-returns-2 c = simp (sym (c .before .is-whole .ensures) ∙ not-true _ (c .if2 .taken), sym (c .before .before .before .before .is-record-long .ensures) ∙ not-false _ (c .before .before .before .if1 .left)) (record { told = refl; rec = refl; memory = refl })
+returns-2 c = simp (c .refused2 .ensures, sym (c .before .before .is-whole .ensures) ∙ not-true _ (c .before .if2 .taken), sym (c .before .before .before .before .before .is-record-long .ensures) ∙ not-false _ (c .before .before .before .before .if1 .left)) (search needs)
 
 reset-from-requires : tie.Need-reset-from-requires
-reset-from-requires c κs =
-    long _ (sym (c .before .before .before .before .before .before .is-record-long .ensures) ∙ not-false _ (c .before .before .before .before .before .if1 .left))
+reset-from-requires c κs = eqb-true _ 24 (sym (c .before .before .before .before .before .before .is-record-long .ensures) ∙ not-false _ (c .before .before .before .before .before .if1 .left))
 
 same-length-4 : tie.Need-same-length-4
 same-length-4 c = search needs
@@ -51,9 +55,11 @@ yaropesk-reset-spec =
     tie.close
     (tie.spec
     is-record-long-requires
+    refused-requires
     same-length
     returns
     is-whole-requires
+    refused-requires-2
     same-length-2
     same-length-3
     returns-2

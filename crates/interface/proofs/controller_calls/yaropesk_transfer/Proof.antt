@@ -1,7 +1,7 @@
--- `interface::controller_calls::yaropesk_transfer` meets its contract: bytes that say no record are refused, and bytes that say one
--- are 24.
+-- `interface::controller_calls::yaropesk_transfer` meets its contract: bytes that say no record are told 1; those that say one
+-- are 24, so that the record left fits.
 -- Assumes nothing.
-use Rattle.interface.proofs.Laws.Calls.{broken-meets, found-meets}
+use Rattle.interface.specs.ControllerCalls.{transferFrom}
 use Rattle.interface.proofs.Laws.Read.{read-length}
 use mathlib.Core.Path.{sym, _∙_}
 use borrow.Author.Needs.{needs}
@@ -14,18 +14,21 @@ read-record-requires c κs = search needs
 enum-told : tie.Need-enum-told
 enum-told c = search needs
 
+refused-requires : tie.Need-refused-requires
+refused-requires c κs = search needs
+
 enum-known-read : tie.Need-enum-known-read
 enum-known-read c = search needs
 
 transfer-from-requires : tie.Need-transfer-from-requires
-transfer-from-requires c κs =
-    read-length _ _ (sym (c .before .before .before .before .before .read-record .ensures) ∙ c .before .before .before .read .given .1)
+transfer-from-requires c κs = read-length _ _ (sym (c .before .before .before .before .before .read-record .ensures) ∙ c .before .before .before .read .given .1)
 
 same-length : tie.Need-same-length
 same-length c = search needs
 
 returns : tie.Need-returns
-returns c = broken-meets _ _ _ _ _ (sym (c .before .before .read-record .ensures) ∙ c .enum-told .given .1)
+unfolding transferFrom
+returns c = simp (c .refused .ensures, sym (c .before .before .before .read-record .ensures) ∙ c .before .enum-told .given .1) (search needs)
 
 same-length-2 : tie.Need-same-length-2
 same-length-2 c = search needs
@@ -34,9 +37,8 @@ same-length-3 : tie.Need-same-length-3
 same-length-3 c = search needs
 
 returns-2 : tie.Need-returns-2
-returns-2 c =
-    let read = c .before .before .before .before .before .before .before .before in
-    found-meets _ _ _ _ _ _ (sym (read .before .before .read-record .ensures) ∙ read .read .given .1) (c .before .before .before .before .transfer-from .ensures)
+unfolding transferFrom
+returns-2 c = simp (sym (c .before .before .before .before .before .before .before .before .before .before .read-record .ensures) ∙ c .before .before .before .before .before .before .before .before .read .given .1) (search needs)
 
 pub yaropesk-transfer-spec : {M : Type 1} → statement M
 yaropesk-transfer-spec =
@@ -44,6 +46,7 @@ yaropesk-transfer-spec =
     (tie.spec
     read-record-requires
     enum-told
+    refused-requires
     enum-known-read
     transfer-from-requires
     same-length

@@ -1,4 +1,5 @@
--- `interface::line_calls::store_line` meets its contract: the refusals come in the order of `stored`.
+-- `interface::line_calls::store_line` meets its contract: the reader's own answer is told first, then 11 where six bytes do not
+-- fit.
 -- Assumes nothing.
 use Rattle.interface.specs.LineCalls.{stored}
 use borrow.Author.Tests.{lt-ltb, le-ltb, not-true, not-false}
@@ -10,19 +11,19 @@ use Rattle.interface.proofs.line_calls.store_line.Tie as tie
 is-done-requires : tie.Need-is-done-requires
 is-done-requires c κs = search needs
 
-returned-requires : tie.Need-returned-requires
-returned-requires c κs = search needs
+refused-requires : tie.Need-refused-requires
+refused-requires c κs = search needs
 
 returns : tie.Need-returns
 unfolding stored
-returns c = simp (c .returned .ensures, sym (c .before .before .is-done .ensures) ∙ not-true _ (c .before .if1 .taken)) (search needs)
+returns c = simp (c .refused .ensures, sym (c .before .before .is-done .ensures) ∙ not-true _ (c .before .if1 .taken)) (search needs)
 
-returned-requires-2 : tie.Need-returned-requires-2
-returned-requires-2 c κs = search needs
+refused-requires-2 : tie.Need-refused-requires-2
+refused-requires-2 c κs = search needs
 
 returns-2 : tie.Need-returns-2
 unfolding stored
-returns-2 c = simp (c .returned2 .ensures, lt-ltb _ _ (c .before .if2 .taken), sym (c .before .before .before .is-done .ensures) ∙ not-false _ (c .before .before .if1 .left)) (search needs)
+returns-2 c = simp (c .refused2 .ensures, lt-ltb _ _ (c .before .if2 .taken), sym (c .before .before .before .is-done .ensures) ∙ not-false _ (c .before .before .if1 .left)) (search needs)
 
 put-transfer-requires : tie.Need-put-transfer-requires
 put-transfer-requires c κs = search needs
@@ -42,9 +43,9 @@ store-line-spec =
     tie.close
     (tie.spec
     is-done-requires
-    returned-requires
+    refused-requires
     returns
-    returned-requires-2
+    refused-requires-2
     returns-2
     put-transfer-requires
     counted-requires

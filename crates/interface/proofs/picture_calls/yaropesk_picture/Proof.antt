@@ -1,7 +1,6 @@
--- `interface::picture_calls::yaropesk_picture` meets its contract: bytes that say no record are refused, and else the picture is of
--- the record that they say.
+-- `interface::picture_calls::yaropesk_picture` meets its contract: bytes that say no record are told 1, and else the picture is
+-- of the record that they say.
 -- Assumes nothing.
-use Rattle.interface.proofs.Laws.Fillings.{broken-fills}
 use Rattle.interface.specs.PictureCalls.{pictureFrom}
 use mathlib.Core.Path.{sym, _∙_}
 use borrow.Author.Needs.{needs}
@@ -14,6 +13,9 @@ read-record-requires c κs = search needs
 enum-told : tie.Need-enum-told
 enum-told c = search needs
 
+refused-requires : tie.Need-refused-requires
+refused-requires c κs = search needs
+
 enum-known-read : tie.Need-enum-known-read
 enum-known-read c = search needs
 
@@ -21,7 +23,8 @@ picture-of-requires : tie.Need-picture-of-requires
 picture-of-requires c κs = search needs
 
 returns : tie.Need-returns
-returns c = broken-fills _ _ _ _ _ _ (sym (c .before .before .read-record .ensures) ∙ c .enum-told .given .1)
+unfolding pictureFrom
+returns c = simp (c .refused .ensures, sym (c .before .before .before .read-record .ensures) ∙ c .before .enum-told .given .1) (search needs)
 
 same-length : tie.Need-same-length
 same-length c = search needs
@@ -36,6 +39,7 @@ yaropesk-picture-spec =
     (tie.spec
     read-record-requires
     enum-told
+    refused-requires
     enum-known-read
     picture-of-requires
     returns

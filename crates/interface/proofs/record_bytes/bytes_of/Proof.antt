@@ -1,9 +1,12 @@
--- `interface::record_bytes::bytes_of` meets its contract: each byte is the one that `recordBytes` has in its place.
+-- `interface::record_bytes::bytes_of` meets its contract: each of the 24 bytes is what `recordBytes` has in its place.
 -- Assumes nothing.
 use Rattle.interface.specs.RecordBytes.{recordBytes}
 use borrow.Author.Needs.{needs}
 use Rattle.interface.proofs.record_bytes.bytes_of.Statement.{statement}
 use Rattle.interface.proofs.record_bytes.bytes_of.Tie as tie
+
+little-endian-requires : tie.Need-little-endian-requires
+little-endian-requires c κs = search needs
 
 width-byte-requires : tie.Need-width-byte-requires
 width-byte-requires c κs = search needs
@@ -32,8 +35,8 @@ bit-byte-requires-7 c κs = search needs
 memory-byte-requires : tie.Need-memory-byte-requires
 memory-byte-requires c κs = search needs
 
-cell-byte-requires : tie.Need-cell-byte-requires
-cell-byte-requires c κs = search needs
+cell-of-requires : tie.Need-cell-of-requires
+cell-of-requires c κs = search needs
 
 bit-byte-requires-8 : tie.Need-bit-byte-requires-8
 bit-byte-requires-8 c κs = search needs
@@ -44,26 +47,27 @@ half-byte-requires c κs = search needs
 value-byte-requires : tie.Need-value-byte-requires
 value-byte-requires c κs = search needs
 
-cast-t19 : tie.Need-cast-t19
-cast-t19 c = search needs
+array-read-t21 : tie.Need-array-read-t21
+array-read-t21 c = search needs
 
-cast-t22 : tie.Need-cast-t22
-cast-t22 c = search needs
+array-read-t24 : tie.Need-array-read-t24
+array-read-t24 c = search needs
 
-cast-t25 : tie.Need-cast-t25
-cast-t25 c = search needs
+array-read-t27 : tie.Need-array-read-t27
+array-read-t27 c = search needs
 
-cast-t28 : tie.Need-cast-t28
-cast-t28 c = search needs
+array-read-t30 : tie.Need-array-read-t30
+array-read-t30 c = search needs
 
 returns : tie.Need-returns
 unfolding recordBytes
-returns c = simp (c .value-byte .ensures, c .before .half-byte .ensures, c .before .before .bit-byte8 .ensures, c .before .before .before .cell-byte .ensures, c .before .before .before .before .memory-byte .ensures, c .before .before .before .before .before .bit-byte7 .ensures, c .before .before .before .before .before .before .bit-byte6 .ensures, c .before .before .before .before .before .before .before .bit-byte5 .ensures, c .before .before .before .before .before .before .before .before .bit-byte4 .ensures, c .before .before .before .before .before .before .before .before .before .bit-byte3 .ensures, c .before .before .before .before .before .before .before .before .before .before .bit-byte2 .ensures, c .before .before .before .before .before .before .before .before .before .before .before .bit-byte .ensures, c .before .before .before .before .before .before .before .before .before .before .before .before .width-byte .ensures)
+returns c = simp (c .value-byte .ensures, c .before .half-byte .ensures, c .before .before .bit-byte8 .ensures, c .before .before .before .cell-of .ensures, c .before .before .before .before .memory-byte .ensures, c .before .before .before .before .before .bit-byte7 .ensures, c .before .before .before .before .before .before .bit-byte6 .ensures, c .before .before .before .before .before .before .before .bit-byte5 .ensures, c .before .before .before .before .before .before .before .before .bit-byte4 .ensures, c .before .before .before .before .before .before .before .before .before .bit-byte3 .ensures, c .before .before .before .before .before .before .before .before .before .before .bit-byte2 .ensures, c .before .before .before .before .before .before .before .before .before .before .before .bit-byte .ensures, c .before .before .before .before .before .before .before .before .before .before .before .before .width-byte .ensures, c .before .before .before .before .before .before .before .before .before .before .before .before .before .little-endian .ensures)
 
 pub bytes-of-spec : {M : Type 1} → statement M
 bytes-of-spec =
     tie.close
     (tie.spec
+    little-endian-requires
     width-byte-requires
     bit-byte-requires
     bit-byte-requires-2
@@ -73,12 +77,12 @@ bytes-of-spec =
     bit-byte-requires-6
     bit-byte-requires-7
     memory-byte-requires
-    cell-byte-requires
+    cell-of-requires
     bit-byte-requires-8
     half-byte-requires
     value-byte-requires
-    cast-t19
-    cast-t22
-    cast-t25
-    cast-t28
+    array-read-t21
+    array-read-t24
+    array-read-t27
+    array-read-t30
     returns)

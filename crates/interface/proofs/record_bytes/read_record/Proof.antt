@@ -1,8 +1,8 @@
--- `interface::record_bytes::read_record` meets its contract: at each return what led there says which case of `recordIn` holds.
+-- `interface::record_bytes::read_record` meets its contract: 24 bytes are compared with those of the record that they would say;
+-- any other length says none.
 -- Assumes nothing.
 use Rattle.interface.specs.RecordBytes.{recordIn}
-use Rattle.interface.proofs.Laws.Calls.{long}
-use borrow.Author.Tests.{not-true, not-false}
+use borrow.Author.Tests.{eqb-true, not-true, not-false}
 use mathlib.Core.Path.{sym, _∙_}
 use borrow.Author.Needs.{needs}
 use Rattle.interface.proofs.record_bytes.read_record.Statement.{statement}
@@ -16,7 +16,7 @@ unfolding recordIn
 returns c = simp (sym (c .before .is-record-long .ensures) ∙ not-true _ (c .if1 .taken))
 
 record-from-requires : tie.Need-record-from-requires
-record-from-requires c κs = long _ (sym (c .before .is-record-long .ensures) ∙ not-false _ (c .if1 .left))
+record-from-requires c κs = eqb-true _ 24 (sym (c .before .is-record-long .ensures) ∙ not-false _ (c .if1 .left))
 
 read-record-as-requires : tie.Need-read-record-as-requires
 read-record-as-requires c κs = search needs

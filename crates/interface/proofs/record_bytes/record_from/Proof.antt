@@ -1,4 +1,4 @@
--- `interface::record_bytes::record_from` meets its contract: each field is read where `recordFrom` reads it.
+-- `interface::record_bytes::record_from` meets its contract: each field is read where `recordFrom` reads it, within the 24 bytes.
 -- Assumes nothing.
 use Rattle.interface.specs.RecordBytes.{recordFrom}
 use borrow.Author.Needs.{needs}

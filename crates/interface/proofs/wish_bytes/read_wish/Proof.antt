@@ -1,4 +1,5 @@
--- `interface::wish_bytes::read_wish` meets its contract: at each return what led there says which case of `wishIn` holds.
+-- `interface::wish_bytes::read_wish` meets its contract: 16 bytes are compared with those of the wish that they would say; any
+-- other length says none.
 -- Assumes nothing.
 use Rattle.interface.specs.WishBytes.{wishIn}
 use borrow.Author.Tests.{eq-eqb, ne-eqb}

@@ -1,4 +1,4 @@
--- `lines::digits::kind_of` meets its contract: at each return the tests that led there say which letter it is.
+-- `lines::digits::kind_of` meets its contract: four letters have their kinds, in the order of `kindOf`, and any other byte has 4.
 -- Assumes nothing.
 use Rattle.lines.specs.Line.{kindOf}
 use borrow.Author.Tests.{eq-eqb, ne-eqb}

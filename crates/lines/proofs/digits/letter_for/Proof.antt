@@ -1,4 +1,4 @@
--- `lines::digits::letter_for` meets its contract: at each return the tests that led there say which kind it is.
+-- `lines::digits::letter_for` meets its contract: `I`, `D` and `S` are the letters of 0, 1 and 2, and every other number has `R`.
 -- Assumes nothing.
 use Rattle.lines.specs.Line.{letterOf}
 use borrow.Author.Tests.{eq-eqb, ne-eqb}

@@ -1,4 +1,4 @@
--- `lines::digits::worth_of` meets its contract: at each return the bounds that led there say in which range the byte is.
+-- `lines::digits::worth_of` meets its contract: of the five ranges that the bounds part, two are digits.
 -- Assumes nothing.
 use Rattle.lines.specs.Digits.{worthOf}
 use native.Mathlib.Omega.{arith}

@@ -49,8 +49,16 @@ text-at-requires-3 c κs = search needs
 worth-of-requires-2 : tie.Need-worth-of-requires-2
 worth-of-requires-2 c κs = search needs
 
-mul-complete : tie.Need-mul-complete
-mul-complete c =
+mul-line-from : tie.Need-mul-line-from
+mul-line-from c =
+    let high = c .before .before in
+    let byte = high .before .before .before .before in
+    let digits = stands-digits _ (sym (byte .before .byte-stands .ensures) ∙ not-false _ (byte .if2 .left)) in
+    let above : high .worth-of .result < 16 = rw (high .worth-of .ensures, high .before .text-at2 .ensures) (digits .0) in
+    omega arith
+
+add-line-from : tie.Need-add-line-from
+add-line-from c =
     let high = c .before .before in
     let byte = high .before .before .before .before in
     let digits = stands-digits _ (sym (byte .before .byte-stands .ensures) ∙ not-false _ (byte .if2 .left)) in
@@ -58,21 +66,12 @@ mul-complete c =
     let below : c .worth-of2 .result < 16 = rw (c .worth-of2 .ensures, c .before .text-at3 .ensures) (digits .1) in
     omega arith
 
-add-complete : tie.Need-add-complete
-add-complete c =
-    let high = c .before .before in
-    let byte = high .before .before .before .before in
-    let digits = stands-digits _ (sym (byte .before .byte-stands .ensures) ∙ not-false _ (byte .if2 .left)) in
-    let above : high .worth-of .result < 16 = rw (high .worth-of .ensures, high .before .text-at2 .ensures) (digits .0) in
-    let below : c .worth-of2 .result < 16 = rw (c .worth-of2 .ensures, c .before .text-at3 .ensures) (digits .1) in
-    omega arith
-
-complete-requires : tie.Need-complete-requires
-complete-requires c κs = search needs
+line-from-requires : tie.Need-line-from-requires
+line-from-requires c κs = search needs
 
 returns-3 : tie.Need-returns-3
 unfolding lineOf
-returns-3 c = simp (c .complete .ensures, c .before .worth-of2 .ensures, c .before .before .text-at3 .ensures, c .before .before .before .worth-of .ensures, c .before .before .before .before .text-at2 .ensures, c .before .before .before .before .before .kind-of .ensures, c .before .before .before .before .before .before .text-at .ensures, sym (c .before .before .before .before .before .before .before .before .byte-stands .ensures) ∙ not-false _ (c .before .before .before .before .before .before .before .if2 .left), sym (c .before .before .before .before .before .before .before .before .before .before .kind-stands .ensures) ∙ not-false _ (c .before .before .before .before .before .before .before .before .before .if1 .left))
+returns-3 c = simp (c .line-from .ensures, c .before .worth-of2 .ensures, c .before .before .text-at3 .ensures, c .before .before .before .worth-of .ensures, c .before .before .before .before .text-at2 .ensures, c .before .before .before .before .before .kind-of .ensures, c .before .before .before .before .before .before .text-at .ensures, sym (c .before .before .before .before .before .before .before .before .byte-stands .ensures) ∙ not-false _ (c .before .before .before .before .before .before .before .if2 .left), sym (c .before .before .before .before .before .before .before .before .before .before .kind-stands .ensures) ∙ not-false _ (c .before .before .before .before .before .before .before .before .before .if1 .left))
 
 pub read-line-spec : {M : Type 1} → statement M
 read-line-spec =
@@ -90,7 +89,7 @@ read-line-spec =
     worth-of-requires
     text-at-requires-3
     worth-of-requires-2
-    mul-complete
-    add-complete
-    complete-requires
+    mul-line-from
+    add-line-from
+    line-from-requires
     returns-3)

@@ -1,4 +1,4 @@
--- `lines::reader::with_wait` meets its contract: by the cases of the wait.
+-- `lines::reader::with_wait` meets its contract: a bad wait makes a bad line, a good one the line with it.
 -- Assumes nothing.
 use Rattle.lines.specs.Reading.{withWait}
 use borrow.Author.Needs.{needs}

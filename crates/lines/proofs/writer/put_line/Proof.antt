@@ -11,23 +11,23 @@ use borrow.Author.Needs.{needs}
 use Rattle.lines.proofs.writer.put_line.Statement.{statement}
 use Rattle.lines.proofs.writer.put_line.Tie as tie
 
-put-kind-requires : tie.Need-put-kind-requires
-put-kind-requires c κs = search needs
+put-kind-field-requires : tie.Need-put-kind-field-requires
+put-kind-field-requires c κs = search needs
 
-put-byte-requires : tie.Need-put-byte-requires
-put-byte-requires c κs = search needs
+put-byte-field-requires : tie.Need-put-byte-field-requires
+put-byte-field-requires c κs = search needs
 
-put-number-requires : tie.Need-put-number-requires
-put-number-requires c κs =
+put-number-field-requires : tie.Need-put-number-field-requires
+put-number-field-requires c κs =
     let byte = c .before .before .before in
     let kind = byte .before .before .before .before in
     let start = kind .before .before .before in
     omega (
       arith,
-      kind .put-kind .ensures .0,
-      kind .put-kind .kept .1 .0,
-      byte .put-byte .ensures .0,
-      byte .put-byte .kept .1 .0,
+      kind .put-kind-field .ensures .0,
+      kind .put-kind-field .kept .1 .0,
+      byte .put-byte-field .ensures .0,
+      byte .put-byte-field .kept .1 .0,
       field-below 9 (start .args .wait) newline (omega arith),
     )
 
@@ -42,15 +42,15 @@ returns c =
     let kind = byte .before .before .before .before in
     let start = kind .before .before .before in
     let out = start .args .out .now in (
-      omega (arith, wait .put-number .ensures .0, byte .put-byte .ensures .0, kind .put-kind .ensures .0),
-      wait .put-number .ensures .1
+      omega (arith, wait .put-number-field .ensures .0, byte .put-byte-field .ensures .0, kind .put-kind-field .ensures .0),
+      wait .put-number-field .ensures .1
           ∙ sets-next out 0 (kindField (start .args .kind) ++ byteField (start .args .byte)) (numberField (start .args .wait) newline)
-          (byte .put-byte .ensures .1
-          ∙ sets-next out 0 (kindField (start .args .kind)) (byteField (start .args .byte)) (kind .put-kind .ensures .1) (kind .put-kind .ensures .0))
-          (omega (arith, byte .put-byte .ensures .0, kind .put-kind .ensures .0)),
+          (byte .put-byte-field .ensures .1
+          ∙ sets-next out 0 (kindField (start .args .kind)) (byteField (start .args .byte)) (kind .put-kind-field .ensures .1) (kind .put-kind-field .ensures .0))
+          (omega (arith, byte .put-byte-field .ensures .0, kind .put-kind-field .ensures .0)),
     )
 
 pub put-line-spec : {M : Type 1} → statement M
 put-line-spec =
     tie.close
-    (tie.spec put-kind-requires put-byte-requires put-number-requires same-length returns)
+    (tie.spec put-kind-field-requires put-byte-field-requires put-number-field-requires same-length returns)

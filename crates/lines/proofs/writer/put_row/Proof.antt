@@ -15,52 +15,52 @@ use borrow.Author.Needs.{needs}
 use Rattle.lines.proofs.writer.put_row.Statement.{statement}
 use Rattle.lines.proofs.writer.put_row.Tie as tie
 
-put-number-requires : tie.Need-put-number-requires
-put-number-requires c κs =
+put-number-field-requires : tie.Need-put-number-field-requires
+put-number-field-requires c κs =
     let start = c .before .before in
     omega (arith, field-below 19 (start .args .number) tab (omega arith))
 
-put-number-requires-2 : tie.Need-put-number-requires-2
-put-number-requires-2 c κs =
+put-number-field-requires-2 : tie.Need-put-number-field-requires-2
+put-number-field-requires-2 c κs =
     let number = c .before .before .before in
     let start = number .before .before .before in
     omega (
       arith,
-      number .put-number .ensures .0,
-      number .put-number .kept .1 .1 .0,
+      number .put-number-field .ensures .0,
+      number .put-number-field .kept .1 .1 .0,
       field-below 19 (start .args .number) tab (omega arith),
       field-below 2 (start .args .answer) tab (omega arith),
     )
 
-put-byte-requires : tie.Need-put-byte-requires
-put-byte-requires c κs =
+put-byte-field-requires : tie.Need-put-byte-field-requires
+put-byte-field-requires c κs =
     let answer = c .before .before .before in
     let number = answer .before .before .before .before in
     let start = number .before .before .before in
     omega (
       arith,
-      number .put-number .ensures .0,
-      number .put-number .kept .1 .1 .0,
-      answer .put-number2 .ensures .0,
-      answer .put-number2 .kept .1 .1 .0,
+      number .put-number-field .ensures .0,
+      number .put-number-field .kept .1 .1 .0,
+      answer .put-number-field2 .ensures .0,
+      answer .put-number-field2 .kept .1 .1 .0,
       field-below 19 (start .args .number) tab (omega arith),
       field-below 2 (start .args .answer) tab (omega arith),
     )
 
-put-number-requires-3 : tie.Need-put-number-requires-3
-put-number-requires-3 c κs =
+put-number-field-requires-3 : tie.Need-put-number-field-requires-3
+put-number-field-requires-3 c κs =
     let byte = c .before .before .before in
     let answer = byte .before .before .before .before in
     let number = answer .before .before .before .before in
     let start = number .before .before .before in
     omega (
       arith,
-      number .put-number .ensures .0,
-      number .put-number .kept .1 .1 .0,
-      answer .put-number2 .ensures .0,
-      answer .put-number2 .kept .1 .1 .0,
-      byte .put-byte .ensures .0,
-      byte .put-byte .kept .1 .0,
+      number .put-number-field .ensures .0,
+      number .put-number-field .kept .1 .1 .0,
+      answer .put-number-field2 .ensures .0,
+      answer .put-number-field2 .kept .1 .1 .0,
+      byte .put-byte-field .ensures .0,
+      byte .put-byte-field .kept .1 .0,
       field-below 19 (start .args .number) tab (omega arith),
       field-below 2 (start .args .answer) tab (omega arith),
       field-below 9 (start .args .busy) newline (omega arith),
@@ -86,19 +86,19 @@ returns c =
     let three : length ((a ++ b) ++ d) ≡ length (a ++ b) + 3 = length-append (a ++ b) d in (
       omega (
         arith,
-        busy .put-number3 .ensures .0,
-        byte .put-byte .ensures .0,
-        answer .put-number2 .ensures .0,
-        number .put-number .ensures .0,
+        busy .put-number-field3 .ensures .0,
+        byte .put-byte-field .ensures .0,
+        answer .put-number-field2 .ensures .0,
+        number .put-number-field .ensures .0,
         row-length (start .args .number) (start .args .answer) (start .args .byte) (start .args .busy),
       ),
-      busy .put-number3 .ensures .1
+      busy .put-number-field3 .ensures .1
           ∙ sets-next out 0 ((a ++ b) ++ d) e
-          (byte .put-byte .ensures .1
+          (byte .put-byte-field .ensures .1
           ∙ sets-next out 0 (a ++ b) d
-          (answer .put-number2 .ensures .1 ∙ sets-next out 0 a b (number .put-number .ensures .1) (number .put-number .ensures .0))
-          (omega (arith, answer .put-number2 .ensures .0, number .put-number .ensures .0)))
-          (omega (arith, byte .put-byte .ensures .0, answer .put-number2 .ensures .0, number .put-number .ensures .0))
+          (answer .put-number-field2 .ensures .1 ∙ sets-next out 0 a b (number .put-number-field .ensures .1) (number .put-number-field .ensures .0))
+          (omega (arith, answer .put-number-field2 .ensures .0, number .put-number-field .ensures .0)))
+          (omega (arith, byte .put-byte-field .ensures .0, answer .put-number-field2 .ensures .0, number .put-number-field .ensures .0))
           ∙ ap (sets out 0) (append-assoc (a ++ b) d e ∙ append-assoc a b (d ++ e)),
     )
 
@@ -106,9 +106,9 @@ pub put-row-spec : {M : Type 1} → statement M
 put-row-spec =
     tie.close
     (tie.spec
-    put-number-requires
-    put-number-requires-2
-    put-byte-requires
-    put-number-requires-3
+    put-number-field-requires
+    put-number-field-requires-2
+    put-byte-field-requires
+    put-number-field-requires-3
     same-length
     returns)

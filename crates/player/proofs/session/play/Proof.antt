@@ -1,20 +1,15 @@
--- `player::session::play` meets its contract: the header, then the rows of the text from a controller after reset, are the report.
--- Assumes nothing.
-use Rattle.player.specs.Report.{playing}
-use mathlib.Core.Bool.{true, false}
-use mathlib.Core.Path.{_≡_, refl, sym, _∙_, ap}
-use Prim.Native.Nat.{_+_, _*_, ℕ, _≤_}
-use denote.Ref.{now}
-use lib.Dec.{ltb}
-use lib.ListN.{length, length-drop}
+-- `player::session::play` meets its contract: the header, and after it the rows of a walk from the controller that reset makes, are the
+-- report, which the buffer takes. Assumes nothing.
+use mathlib.Core.Path.{refl, sym, ap, _∙_}
+use Prim.Native.Nat.{ℕ, _+_, _*_, _^_, _<_}
 use native.Mathlib.Omega.{arith}
-use borrow.Author.Tests.{ltb-false, le-ltb}
+use lib.ListN.{length}
+use borrow.Author.Tests.{ltb-false}
 use Rattle.controller.specs.declared.answers.Answer.the-variants.{Done}
-use Rattle.controller.specs.Record.{sound}
-use Rattle.controller.specs.Runs.{State}
 use Rattle.lines.specs.Writing.{wanting}
-use Rattle.player.proofs.Laws.Going.{tail}
-use Rattle.player.proofs.Laws.Whole.{reset-starts, header-done, report-done, start-sound}
+use Rattle.player.specs.Report.{playing}
+use Rattle.player.proofs.Laws.Session.{reset-starts}
+use Rattle.player.proofs.Laws.Walk.{report-begins, report-done}
 use borrow.Author.Needs.{needs}
 use Rattle.player.proofs.session.play.Statement.{statement}
 use Rattle.player.proofs.session.play.Tie as tie
@@ -24,16 +19,13 @@ is-short-requires c κs = search needs
 
 returns : tie.Need-returns
 unfolding playing wanting
-returns c =
-    let begin = c .before .before .before .before in
-    let short : ltb (length (now (begin .args .out))) (6 * length (now (begin .args .text)) + 62) ≡ true = sym (c .before .is-short .ensures) ∙ c .if1 .taken in
-    simp short (search needs)
+returns c = simp (sym (c .before .is-short .ensures) ∙ c .if1 .taken) (search needs)
 
 write-header-requires : tie.Need-write-header-requires
 write-header-requires c κs = search needs
 
-any-record-requires : tie.Need-any-record-requires
-any-record-requires c κs = search needs
+after-reset-requires : tie.Need-after-reset-requires
+after-reset-requires c κs = search needs
 
 slice-aggregate-reset : tie.Need-slice-aggregate-reset
 slice-aggregate-reset c = search needs
@@ -41,60 +33,15 @@ slice-aggregate-reset c = search needs
 reset-requires : tie.Need-reset-requires
 reset-requires c κs = search needs
 
-slice-aggregate-play-rows : tie.Need-slice-aggregate-play-rows
-slice-aggregate-play-rows c = search needs
+slice-aggregate-walk : tie.Need-slice-aggregate-walk
+slice-aggregate-walk c = search needs
 
-sub-play-rows : tie.Need-sub-play-rows
-sub-play-rows c =
-    let head = c .before .before .before .before .before .before .before .before in
-    let asked = head .before .before in
-    let begin = asked .before .before .before .before in
-    let long : 6 * length (now (begin .args .text)) + 62 ≤ length (now (begin .args .out)) =
-    ltb-false (length (now (begin .args .out))) (6 * length (now (begin .args .text)) + 62) (sym (asked .before .is-short .ensures) ∙ asked .if1 .left) in
-    let done = header-done (omega arith) (head .write-header .ensures) in
-    omega (arith, done .0, done .2)
-
-part-play-rows-start : tie.Need-part-play-rows-start
-part-play-rows-start c =
-    let head = c .before .before .before .before .before .before .before .before in
-    let asked = head .before .before in
-    let begin = asked .before .before .before .before in
-    let long : 6 * length (now (begin .args .text)) + 62 ≤ length (now (begin .args .out)) =
-    ltb-false (length (now (begin .args .out))) (6 * length (now (begin .args .text)) + 62) (sym (asked .before .is-short .ensures) ∙ asked .if1 .left) in
-    let done = header-done (omega arith) (head .write-header .ensures) in
-    omega (arith, done .0, done .2)
-
-part-play-rows-end : tie.Need-part-play-rows-end
-part-play-rows-end c = search needs
-
-play-rows-requires : tie.Need-play-rows-requires
-play-rows-requires c κs =
+walk-requires : tie.Need-walk-requires
+walk-requires c κs =
     let head = c .before .before .before .before .before .before .before .before .before in
     let asked = head .before .before in
     let begin = asked .before .before .before .before in
-    let long : 6 * length (now (begin .args .text)) + 62 ≤ length (now (begin .args .out)) =
-    ltb-false (length (now (begin .args .out))) (6 * length (now (begin .args .text)) + 62) (sym (asked .before .is-short .ensures) ∙ asked .if1 .left) in
-    let done = header-done (omega arith) (head .write-header .ensures) in
-    let out = head .write-header .last .0 in
-    let set = c .before .before .before .before in
-    let starts = reset-starts (set .before .before .any-record .result) (set .reset .ensures) in (
-      ap (λ (s : State). sound (s .rec)) starts ∙ start-sound,
-      rw (tail out (head .write-header .result .length)) (omega (arith, length-drop (head .write-header .result .length) out, done .0, done .2)),
-    )
-
-add-t11 : tie.Need-add-t11
-add-t11 c =
-    let head = c .before .before .before .before .before .before .before .before .before .before .before .before .before in
-    let asked = head .before .before in
-    let begin = asked .before .before .before .before in
-    let long : 6 * length (now (begin .args .text)) + 62 ≤ length (now (begin .args .out)) =
-    ltb-false (length (now (begin .args .out))) (6 * length (now (begin .args .text)) + 62) (sym (asked .before .is-short .ensures) ∙ asked .if1 .left) in
-    let done = header-done (omega arith) (head .write-header .ensures) in
-    let rows = c .before .before .before in
-    let set = rows .before .before .before .before .before in
-    let starts = reset-starts (set .before .before .any-record .result) (set .reset .ensures) in
-    let whole = report-done (omega arith) (head .write-header .ensures) starts (rows .play-rows .ensures) in
-    omega (arith, whole .2)
+    report-begins (begin .args .text .now) _ (ltb-false (length (begin .args .out .now)) (6 * length (begin .args .text .now) + 62) (sym (asked .before .is-short .ensures) ∙ asked .if1 .left)) (head .write-header .kept .0) (head .write-header .ensures)
 
 same-length : tie.Need-same-length
 same-length c = search needs
@@ -102,18 +49,16 @@ same-length c = search needs
 returns-2 : tie.Need-returns-2
 unfolding playing wanting
 returns-2 c =
-    let head = c .before .before .before .before .before .before .before .before .before .before .before .before .before in
+    let set = c .before .before .before .before .before .before .before .before in
+    let head = set .before .before .before .before .before in
     let asked = head .before .before in
     let begin = asked .before .before .before .before in
-    let long : 6 * length (now (begin .args .text)) + 62 ≤ length (now (begin .args .out)) =
-    ltb-false (length (now (begin .args .out))) (6 * length (now (begin .args .text)) + 62) (sym (asked .before .is-short .ensures) ∙ asked .if1 .left) in
-    let done = header-done (omega arith) (head .write-header .ensures) in
-    let rows = c .before .before .before in
-    let set = rows .before .before .before .before .before in
-    let starts = reset-starts (set .before .before .any-record .result) (set .reset .ensures) in
-    let whole = report-done (omega arith) (head .write-header .ensures) starts (rows .play-rows .ensures) in
-    let enough : ltb (length (now (begin .args .out))) (6 * length (now (begin .args .text)) + 62) ≡ false = le-ltb _ _ long in
-    simp enough (record { told = ap (λ (n : ℕ). record { answer = Done; length = n }) (whole .0); number = refl; buffer = whole .1 })
+    let enough = sym (asked .before .is-short .ensures) ∙ asked .if1 .left in
+    let begins = reset-starts (set .before .before .after-reset .result) (set .reset .ensures) in
+    let long = ltb-false (length (begin .args .out .now)) (6 * length (begin .args .text .now) + 62) enough in
+    let few : length (begin .args .out .now) < 2 ^ 64 = omega arith in
+    let done = report-done (begin .args .text .now) (c .before .before .before .walk .result) long (omega arith) (head .write-header .ensures) begins (c .before .before .before .walk .ensures) in
+    simp enough (record { told = ap (λ (n : ℕ). record { answer = Done; length = n }) (done .0); number = refl; buffer = done .1 })
 
 pub play-spec : {M : Type 1} → statement M
 play-spec =
@@ -122,14 +67,10 @@ play-spec =
     is-short-requires
     returns
     write-header-requires
-    any-record-requires
+    after-reset-requires
     slice-aggregate-reset
     reset-requires
-    slice-aggregate-play-rows
-    sub-play-rows
-    part-play-rows-start
-    part-play-rows-end
-    play-rows-requires
-    add-t11
+    slice-aggregate-walk
+    walk-requires
     same-length
     returns-2)

@@ -1,5 +1,4 @@
--- `vectors::display::put_letters` meets its contract: every position lies on the glass; the measure is the columns that are left.
--- Assumes nothing.
+-- `vectors::display::put_letters` is safe and ends: every position lies on the glass; the measure is the columns that are left.
 use Prim.Native.Nat.{_-_, _≤_}
 use mathlib.Core.Path.{_≡_}
 use lib.ListN.{length}

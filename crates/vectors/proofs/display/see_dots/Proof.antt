@@ -1,5 +1,4 @@
--- `vectors::display::see_dots` meets its contract: every row lies within the picture; the measure is the rows that are left.
--- Assumes nothing.
+-- `vectors::display::see_dots` is safe and ends: every row lies within the picture; the measure is the rows that are left.
 use Prim.Native.Nat.{_-_, _≤_}
 use mathlib.Core.Path.{_≡_}
 use lib.ListN.{length}

@@ -1,5 +1,4 @@
--- `vectors::example::play` meets its contract: every row lies within the text; the measure is the bytes that are left.
--- Assumes nothing.
+-- `vectors::example::play` is safe and ends: every row lies within the text; the measure is the bytes that are left.
 use Prim.Native.Nat.{_-_, _≤_}
 use mathlib.Core.Path.{_≡_}
 use lib.ListN.{length}

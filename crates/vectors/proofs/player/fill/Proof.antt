@@ -1,5 +1,4 @@
--- `vectors::player::fill` meets its contract: every code fits a byte; the measure is the cells that are left.
--- Assumes nothing.
+-- `vectors::player::fill` is safe and ends: every code fits a byte; the measure is the cells that are left.
 use Prim.Native.Nat.{_-_, _≤_}
 use borrow.Author.Needs.{needs}
 use Rattle.vectors.proofs.player.fill.Statement.{statement}

@@ -1,5 +1,4 @@
--- `vectors::report::is_printed` meets its contract: each byte that is read lies within the text; the measure is the bytes that are left.
--- Assumes nothing.
+-- `vectors::report::is_printed` is safe and ends: each byte that is read lies within the text; the measure is the bytes that are left.
 use Prim.Native.Nat.{_-_, _≤_}
 use borrow.Author.Needs.{needs}
 use Rattle.vectors.proofs.report.is_printed.Statement.{statement}

@@ -1,5 +1,4 @@
--- `vectors::report::put_part` meets its contract: the measure is the bytes that are left.
--- Assumes nothing.
+-- `vectors::report::put_part` is safe and ends: the measure is the bytes that are left.
 use Prim.Native.Nat.{_-_, _≤_}
 use mathlib.Core.Path.{_≡_}
 use lib.ListN.{length}

@@ -1,5 +1,4 @@
 -- `vectors::row::row_end` meets its contract: the place stays between the row's start and the text's end; the measure is the bytes that are left.
--- Assumes nothing.
 use Prim.Native.Nat.{_-_, _≤_}
 use lib.ListN.{length}
 use borrow.Author.Needs.{needs}

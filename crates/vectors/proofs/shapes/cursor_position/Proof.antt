@@ -1,5 +1,4 @@
--- `vectors::shapes::cursor_position` meets its contract: every position lies on the glass; the measure is the positions that are left.
--- Assumes nothing.
+-- `vectors::shapes::cursor_position` is safe and ends: every position lies on the glass; the measure is the positions that are left.
 use Prim.Native.Nat.{_-_, _≤_}
 use borrow.Author.Needs.{needs}
 use Rattle.vectors.proofs.shapes.cursor_position.Statement.{statement}

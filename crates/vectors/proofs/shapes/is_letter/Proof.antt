@@ -1,5 +1,4 @@
--- `vectors::shapes::is_letter` meets its contract: every row lies within the shape; the measure is the rows that are left.
--- Assumes nothing.
+-- `vectors::shapes::is_letter` is safe and ends: every row lies within the shape; the measure is the rows that are left.
 use Prim.Native.Nat.{_-_, _≤_}
 use borrow.Author.Needs.{needs}
 use Rattle.vectors.proofs.shapes.is_letter.Statement.{statement}

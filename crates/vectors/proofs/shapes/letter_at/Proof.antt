@@ -1,5 +1,4 @@
--- `vectors::shapes::letter_at` meets its contract: every code fits a byte; the measure is the letters that are left.
--- Assumes nothing.
+-- `vectors::shapes::letter_at` is safe and ends: every code fits a byte; the measure is the letters that are left.
 use Prim.Native.Nat.{_+_, _-_, _≤_}
 use mathlib.Core.Path.{_≡_}
 use borrow.Author.Needs.{needs}

@@ -1,5 +1,4 @@
--- `vectors::shapes::put_shape` meets its contract: every row lies within the shapes; the measure is the rows that are left.
--- Assumes nothing.
+-- `vectors::shapes::put_shape` is safe and ends: every row lies within the shapes; the measure is the rows that are left.
 use Prim.Native.Nat.{_-_, _≤_}
 use borrow.Author.Needs.{needs}
 use Rattle.vectors.proofs.shapes.put_shape.Statement.{statement}
