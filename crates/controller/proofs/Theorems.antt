@@ -4,3 +4,5 @@ pub mod Refusals
 pub mod Answers
 pub mod One
 pub mod Cases
+pub mod Rules
+pub mod Halves

@@ -11,3 +11,4 @@ pub mod Runs
 pub mod Rows
 pub mod Theorems
 pub mod Cases
+pub mod Rules

@@ -10,9 +10,11 @@ use lib.Dec.{ltb, eqb}
 use lib.ListN.{length, getD, set, length-set}
 use lib.Seq.{getD-set-same, getD-set-other, set-out}
 use Rattle.controller.specs.declared.«record».Record.{Record}
-use Rattle.controller.proofs.Theorems.Cases.{taken-wide}
+use Rattle.controller.proofs.Laws.Taken.{taken-wide}
+use Rattle.controller.proofs.Theorems.Halves.{halves-make-whole, wide-waits}
+use Rattle.controller.specs.Rules.{atWidth}
 use Rattle.controller.specs.Bus.{whole, badTransfer, decided}
-use Rattle.controller.specs.Cases.{Waits}
+use Rattle.controller.specs.Cases.{Waits, taking}
 use Rattle.controller.specs.Execute.{shifted, changed, completed, executed}
 use Rattle.controller.specs.Halves.{begun}
 use Rattle.controller.specs.Instruction.{decoded, bit}
@@ -35,12 +37,25 @@ unfolding badTransfer begun completed executed decoded bit
 shift-taken rec mem wait true w = taken-wide rec mem Empty 0 0x18 wait w refl
 shift-taken rec mem wait false w = taken-wide rec mem Empty 0 0x1C wait w refl
 
-pub p5 : P5
+-- where the lines start after a shift at width 8
+started : (rec : Record) (mem : List ℕ) (wait : ℕ) → Waits rec mem true Empty wait → rec .function .n ≡ true → rec .shift ≡ 0
+    → LinesStart (decided rec mem 0 0x18 wait .rec) 0x01 0x41 × LinesStart (decided rec mem 0 0x1C wait .rec) 0x27 0x67
 unfolding cellIn wrapped addOfCell
-p5 rec mem wait w n s = (
+started rec mem wait w n s = (
   subst (λ (d : Decision). LinesStart (d .rec) 0x01 0x41) (sym (shift-taken rec mem wait true w)) (rw (n, s) (refl, refl)),
   subst (λ (d : Decision). LinesStart (d .rec) 0x27 0x67) (sym (shift-taken rec mem wait false w)) (rw (n, s) (refl, refl)),
 )
+
+pub p5 : P5
+unfolding badTransfer
+p5 true rec mem wait later w n s = started rec mem wait w n s
+p5 false rec mem wait later w n s =
+    let whole = started (atWidth true rec) mem wait (wide-waits rec mem wait w) n s in
+    let same : (byte : ℕ) (good : badTransfer 0 byte ≡ false) (is-byte : byte < 256) (first second : ℕ)
+        → LinesStart (decided (atWidth true rec) mem 0 byte wait .rec) first second → LinesStart (taking false rec mem 0 byte wait later .rec) first second =
+    λ byte good is-byte first second.
+    subst (λ (r : Record). LinesStart r first second) (sym (halves-make-whole rec mem 0 byte wait later w good is-byte .alike .rec)) in
+    (same 0x18 refl (omega arith) 0x01 0x41 (whole .0), same 0x1C refl (omega arith) 0x27 0x67 (whole .1))
 
 -- With 08h for 00h in a display cell: no pattern changes, and no cell shows another row.
 rows-08 : (shapes mem : List ℕ) (row : ℕ) → rowOf shapes mem 0x00 row ≡ rowOf shapes mem 0x08 row

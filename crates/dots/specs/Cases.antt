@@ -7,9 +7,8 @@ use Prim.Native.Nat.{ℕ, _<_}
 use lib.ListN.{getD, set}
 use Rattle.controller.specs.declared.«record».Half.the-variants.{Empty}
 use Rattle.controller.specs.declared.«record».Record.{Record}
-use Rattle.controller.specs.Bus.{decided}
 use Rattle.controller.specs.Cells.{addOfCell}
-use Rattle.controller.specs.Cases.{Waits}
+use Rattle.controller.specs.Cases.{Waits, taking}
 use Rattle.dots.specs.declared.geometry.Shown.{Shown}
 use Rattle.dots.specs.declared.geometry.Shown.the-variants.{Cell, Undriven}
 use Rattle.dots.specs.declared.geometry.Size.{Size}
@@ -30,8 +29,10 @@ LinesStart rec first second =
 -- P5: N=1, one left shift (18h): lines start at 01h and 41h; one right shift (1Ch) instead: 27h and 67h.
 abbrev pub P5 : Type 0
 P5 =
-    (rec : Record) (mem : List ℕ) (wait : ℕ) → Waits rec mem true Empty wait → rec .function .n ≡ true → rec .shift ≡ 0
-    → (LinesStart (decided rec mem 0 0x18 wait .rec) 0x01 0x41) × (LinesStart (decided rec mem 0 0x1C wait .rec) 0x27 0x67)
+    (wide : Bool) (rec : Record) (mem : List ℕ) (wait later : ℕ) → Waits rec mem wide Empty wait → rec .function .n ≡ true
+    → rec .shift ≡ 0
+    → LinesStart (taking wide rec mem 0 0x18 wait later .rec) 0x01 0x41
+    × LinesStart (taking wide rec mem 0 0x1C wait later .rec) 0x27 0x67
 
 -- P7: codes 00h and 08h draw alike, row by row; and with 08h for 00h in a display cell every picture is the same.
 abbrev pub P7 : Type 0

@@ -1,111 +1,108 @@
 -- The bench cases, each by the rules that it runs through.
 -- Assumes nothing.
-use mathlib.Core.Bool.{Bool, true, false, cond, not, and-false}
+use mathlib.Core.Bool.{Bool, true, false, cond, not}
 use mathlib.Core.List.{List, [], _∷_}
-use mathlib.Core.Path.{_≡_, refl, sym, ap, _∙_}
-use Prim.Native.Nat.{ℕ, zero-le}
+use mathlib.Core.Path.{_≡_, refl, sym, ap, subst, _∙_}
+use Prim.Native.Nat.{ℕ, _+_, _-_, _<_, zero-le}
+use lib.Dec.{ltb}
 use native.Mathlib.Omega.{arith}
 use lib.ListN.{length, getD, set}
 use lib.Seq.{getD-set-same}
 use borrow.Author.Tests.{eq-eqb}
-use Rattle.controller.proofs.Laws.Completed.{carried-keeps}
 use Rattle.controller.proofs.Laws.Cells.{place-below}
 use Rattle.controller.proofs.Laws.Memory.{blanked-length, performed-length}
-use Rattle.controller.proofs.Laws.Taken.{accepted-narrow, accepted-wide, covered, taken}
-use Rattle.controller.proofs.Theorems.Sound.{transfer-keeps-sound}
+use Rattle.controller.proofs.Laws.Taken.{taken-narrow, taken-wide}
+use Rattle.controller.proofs.Theorems.Sound.{reset-sound, transfer-keeps-sound}
 use Rattle.controller.proofs.Laws.Record.{sound-counter, waited-over}
 use Rattle.controller.specs.declared.cells.Counter.{Counter}
 use Rattle.controller.specs.declared.cells.Counter.the-variants.{Display, Pattern}
-use Rattle.controller.specs.declared.answers.Answer.{Answer}
-use Rattle.controller.specs.declared.answers.Answer.the-variants.{Done, NoCell, Unsound, BadTransfer}
+use Rattle.controller.specs.declared.answers.Answer.the-variants.{Unsound, BadTransfer}
 use Rattle.controller.specs.declared.decision.Decision.{Decision}
 use Rattle.controller.specs.declared.decision.Effect.the-variants.{Keep}
-use Rattle.controller.specs.declared.«record».Half.{Half}
 use Rattle.controller.specs.declared.«record».Half.the-variants.{Empty, InstructionWrite, DataWrite}
 use Rattle.controller.specs.declared.«record».Record.{Record}
 use Rattle.controller.specs.Bus.{decided, ordered, resetDecided, whole, badTransfer, mustWait}
-use Rattle.controller.specs.Cases.{Waits, afterReset, statusRead, dataWrite, P1, WriteLeads, P2, P3, Answers, P4, P6, P8, P9, P10, sentIn11, P11}
+use Rattle.controller.specs.Cases.{Waits, afterReset, statusRead, taking, dataWrite, P1, WriteLeads, P2, P3, Answers, P4, P6, P8, P9, P10, sentIn11, P11}
 use Rattle.controller.specs.Cells.{onCell, wrapped, stepped, placeOf, addressOf, addOfCell, cellOfAdd}
 use Rattle.controller.specs.Answers.{numberOf}
 use Rattle.controller.specs.Decision.{blanked, performed, done, refused}
 use Rattle.controller.specs.Execute.{shortTime, longTime, statusOf, completed, executed, addressed, carried, written, readOut, homed}
 use Rattle.controller.specs.Halves.{accepted, narrow, begun, firstHalf, firstTold, secondHalf, crossed}
 use Rattle.controller.specs.Instruction.{decoded, bit}
-use Rattle.controller.specs.Record.{resetRecord, resetTime, sound, halfSound, waited, busyOver, withBusy, withHalf}
+use Rattle.controller.specs.Record.{resetRecord, resetTime, sound, halfSound, waited, busyOver, withHalf}
 use Rattle.controller.specs.declared.sent.Sent.{Sent}
+use Rattle.controller.specs.Rules.{Comes, Wide, atWidth, beside, neighbour}
+use Rattle.controller.proofs.Theorems.Halves.{halves-make-whole, wide-waits}
+use Rattle.controller.proofs.Theorems.Rules.{data-rules}
 use Rattle.controller.specs.Runs.{State, Heard, decidedOf, after, toldOf, ran, heard}
-
--- with its memory whole and its busy time covered, a sound controller takes every transfer that is well formed
-waits-taken : (rec : Record) (mem : List ℕ) (wide : Bool) (half : Half) (kind byte wait : ℕ) → Waits rec mem wide half wait → badTransfer kind byte ≡ false
-    → decided rec mem kind byte wait ≡ accepted mem kind byte (busyOver rec)
-waits-taken rec mem wide half kind byte wait w good =
-    taken rec mem kind byte wait (w .sound) (w .whole) good (covered kind wait rec (w .over))
-    ∙ ap (accepted mem kind byte) (waited-over wait rec (w .over))
-
-pub taken-wide : (rec : Record) (mem : List ℕ) (half : Half) (kind byte wait : ℕ) → Waits rec mem true half wait → badTransfer kind byte ≡ false
-    → decided rec mem kind byte wait ≡ completed mem (begun kind byte (busyOver rec)) (busyOver rec)
-taken-wide rec mem half kind byte wait w good =
-    waits-taken rec mem true half kind byte wait w good ∙ accepted-wide mem kind byte (busyOver rec) (w .width)
-
-pub taken-narrow : (rec : Record) (mem : List ℕ) (half : Half) (kind byte wait : ℕ) → Waits rec mem false half wait → badTransfer kind byte ≡ false
-    → decided rec mem kind byte wait ≡ narrow mem kind byte half (busyOver rec)
-taken-narrow rec mem half kind byte wait w good =
-    waits-taken rec mem false half kind byte wait w good ∙ accepted-narrow mem kind byte half (busyOver rec) (w .width) (w .holds)
 
 -- what reset leaves
 reset-state : (rec : Record) (mem : List ℕ) → length mem ≡ 144 → afterReset rec mem ≡ record { rec = resetRecord; mem = blanked mem }
 unfolding resetDecided performed whole
 reset-state rec mem long = rw (eq-eqb (length mem) 144 long)
 
-status-told : (mem : List ℕ) (wait less : ℕ) → length mem ≡ 144 → waited wait resetRecord ≡ withBusy less resetRecord
-    → decided resetRecord mem 2 0 wait .byte ≡ statusOf (withBusy less resetRecord)
-unfolding decided ordered sound halfSound onCell resetRecord resetTime badTransfer mustWait accepted begun completed whole
-status-told mem wait less long is = simp (eq-eqb (length mem) 144 long, is, and-false)
-
 pub p1 : P1
-unfolding statusOf addressOf addOfCell resetRecord resetTime waited
+unfolding resetRecord resetTime
 p1 rec mem long =
-    let told : (wait less : ℕ) → waited wait resetRecord ≡ withBusy less resetRecord
-    → decidedOf (afterReset rec mem) (statusRead wait) .byte ≡ statusOf (withBusy less resetRecord) =
-    λ wait less is. ap (λ (s : State). decidedOf s (statusRead wait) .byte) (reset-state rec mem long)
-    ∙ status-told (blanked mem) wait less (blanked-length mem long) is in
-    (told 9999 1 refl, told 10000 0 refl)
+    let state = reset-state rec mem long in
+    let wide : Wide resetRecord (blanked mem) = record { sound = reset-sound; whole = blanked-length mem long; wide = refl } in
+    let told : (wait : ℕ) → Comes (decidedOf (afterReset rec mem) (statusRead wait)) 0 (cond (ltb 0 (10000 - wait)) 0x80 0 + 0) (10000 - wait) =
+    λ wait. subst (λ (s : State). Comes (decidedOf s (statusRead wait)) 0 (cond (ltb 0 (10000 - wait)) 0x80 0 + 0) (10000 - wait)) (sym state)
+    (data-rules .status resetRecord (blanked mem) wait wide .byte 0 (refl, omega arith)) in
+    ((told 9999 .answer, told 9999 .byte), (told 10000 .answer, told 10000 .byte))
 
-write-leads : (n : Bool) (counter : Counter) (from : ℕ) (next : Counter) (to : ℕ) → addressOf n counter ≡ from → stepped true counter ≡ next
+-- the counter's step, at either width
+write-leads : (n : Bool) (counter : Counter) (from : ℕ) (next : Counter) (to : ℕ) → addressOf n counter ≡ from → beside true counter ≡ next
     → addressOf n next ≡ to → WriteLeads n counter from next to
-unfolding badTransfer begun completed written
-write-leads n counter from next to at steps there rec mem byte wait w lines up place =
-    (at, ap (λ (d : Decision). d .rec .counter) (taken-wide rec mem Empty 1 byte wait w refl) ∙ carried-keeps (λ r. r .counter) _ _ (λ _. refl) ∙ simp (up, place) steps, there)
+unfolding badTransfer
+write-leads n counter from next to at steps there wide rec mem byte wait later w is-byte lines up place = (at, go wide w, there)
+  where
+    wrote : (r : Record) → Waits r mem true Empty wait → r .entry .id ≡ true → r .counter ≡ counter → decided r mem 1 byte wait .rec .counter ≡ next
+    wrote r w rises here = data-rules .write r mem byte wait w .counter ∙ rw (rises, here) steps
+
+    go : (wide : Bool) → Waits rec mem wide Empty wait → taking wide rec mem 1 byte wait later .rec .counter ≡ next
+    go true w = wrote rec w up place
+    go false w =
+        ap (λ (r : Record). r .counter) (halves-make-whole rec mem 1 byte wait later w refl is-byte .alike .rec)
+        ∙ wrote (atWidth true rec) (wide-waits rec mem wait w) up place
 
 pub p2 : P2
-unfolding addressOf addOfCell stepped wrapped
+unfolding addressOf addOfCell beside neighbour
 p2 = write-leads true (Display 39) 0x27 (Display 40) 0x40 refl refl refl
 
 pub p3 : P3
-unfolding addressOf addOfCell stepped wrapped
+unfolding addressOf addOfCell beside neighbour
 p3 = (write-leads true (Display 79) 0x67 (Display 0) 0x00 refl refl refl, write-leads false (Display 79) 0x4F (Display 0) 0x00 refl refl refl)
 
 pub p6 : P6
-unfolding addressOf stepped wrapped
+unfolding addressOf beside neighbour
 p6 n = write-leads n (Pattern 63) 0x3F (Pattern 0) 0x00 refl refl refl
 
 -- a display address, answered by the cell that it names
-answers : (n : Bool) (byte : ℕ) (answer : Answer) → ((mem : List ℕ) (rec : Record) → rec .function .n ≡ n → executed mem (decoded byte) rec .answer ≡ answer)
-    → Answers n byte answer
+answers : (n : Bool) (byte number : ℕ) → byte < 256
+    → ((mem : List ℕ) (rec : Record) → rec .function .n ≡ n → numberOf (executed mem (decoded byte) rec .answer) ≡ number) → Answers n byte number
 unfolding badTransfer begun completed
-answers n byte answer told rec mem wait w lines =
-    ap (λ (d : Decision). d .answer) (taken-wide rec mem Empty 0 byte wait w refl) ∙ told mem (busyOver rec) lines
+answers n byte number is-byte told wide rec mem wait later w lines = go wide w
+  where
+    answered : (r : Record) → Waits r mem true Empty wait → r .function .n ≡ n → numberOf (decided r mem 0 byte wait .answer) ≡ number
+    answered r w lines = ap (λ (d : Decision). numberOf (d .answer)) (taken-wide r mem Empty 0 byte wait w refl) ∙ told mem (busyOver r) lines
+
+    go : (wide : Bool) → Waits rec mem wide Empty wait → numberOf (taking wide rec mem 0 byte wait later .answer) ≡ number
+    go true w = answered rec w lines
+    go false w =
+        ap numberOf (halves-make-whole rec mem 0 byte wait later w refl is-byte .alike .answer)
+        ∙ answered (atWidth true rec) (wide-waits rec mem wait w) lines
 
 pub p4 : P4
 unfolding executed decoded addressed cellOfAdd
 p4 = (
-  answers true 0xA7 Done (λ mem rec lines. rw lines refl),
-  answers true 0xA8 NoCell (λ mem rec lines. rw lines refl),
-  answers true 0xBF NoCell (λ mem rec lines. rw lines refl),
-  answers true 0xE7 Done (λ mem rec lines. rw lines refl),
-  answers true 0xE8 NoCell (λ mem rec lines. rw lines refl),
-  answers false 0xCF Done (λ mem rec lines. rw lines refl),
-  answers false 0xD0 NoCell (λ mem rec lines. rw lines refl),
+  answers true 0xA7 0 (omega arith) (λ mem rec lines. rw lines refl),
+  answers true 0xA8 6 (omega arith) (λ mem rec lines. rw lines refl),
+  answers true 0xBF 6 (omega arith) (λ mem rec lines. rw lines refl),
+  answers true 0xE7 0 (omega arith) (λ mem rec lines. rw lines refl),
+  answers true 0xE8 6 (omega arith) (λ mem rec lines. rw lines refl),
+  answers false 0xCF 0 (omega arith) (λ mem rec lines. rw lines refl),
+  answers false 0xD0 6 (omega arith) (λ mem rec lines. rw lines refl),
 )
 
 pub p9 : P9
@@ -123,7 +120,7 @@ pub p10 : P10
 unfolding badTransfer narrow secondHalf completed written crossed performed
 p10 rec mem wait w =
     let d : decided rec mem 0 0x30 wait ≡ narrow mem 0 0x30 (DataWrite 4) (busyOver rec) = taken-narrow rec mem (DataWrite 4) 0 0x30 wait w refl in (
-      ap (λ (x : Decision). x .answer) d,
+      ap (λ (x : Decision). numberOf (x .answer)) d,
       ap (λ (x : Decision). getD (performed (x .effect) mem) (placeOf (rec .counter)) 0) d ∙ stored mem rec 0x43 (w .whole) (w .sound),
     )
 

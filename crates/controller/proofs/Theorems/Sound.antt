@@ -13,7 +13,7 @@ use Rattle.controller.specs.Theorems.{TransferKeepsSound, ResetMakesSoun
 pub transfer-keeps-sound : TransferKeepsSound
 transfer-keeps-sound rec mem kind byte wait below s = decided-kept rec mem kind byte wait below s .sound
 
-reset-sound : sound resetRecord ≡ true
+pub reset-sound : sound resetRecord ≡ true
 unfolding resetRecord
 reset-sound = idle-sound resetRecord (record { shift = omega arith; counter = display-on 0 (omega arith); half = refl }) (omega arith)
 
