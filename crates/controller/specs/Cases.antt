@@ -47,9 +47,10 @@ Gives d number byte = (numberOf (d .answer) ≡ number) × (d .byte ≡ byte)
 abbrev pub P1 : Type 0
 P1 =
     (rec : Record) (mem : List ℕ) → length mem ≡ 144
-    → Gives (decidedOf (afterReset rec mem) (statusRead 9999)) 0 0x80 × Gives (decidedOf (afterReset rec mem) (statusRead 10000)) 0 0x00
+    → Gives (decidedOf (afterReset rec mem) (statusRead 9999)) 0 0x80
+    × Gives (decidedOf (afterReset rec mem) (statusRead 10000)) 0 0x00
 
--- A transfer as a controller of this width takes it: whole at width 8, at width 4 in two halves, the second after this later wait.
+-- A transfer as a controller of this width takes it: whole at width 8, at width 4 in two halves, the second after the later wait.
 abbrev pub taking : Bool → Record → List ℕ → ℕ → ℕ → ℕ → ℕ → Decision
 taking true rec mem kind byte wait later = decided rec mem kind byte wait
 taking false rec mem kind byte wait later = decided (decided rec mem kind (highHalf byte) wait .rec) mem kind (lowHalf byte) later

@@ -313,7 +313,8 @@ HalvesMakeWhole =
 -- A data read never shifts the display, whatever S is.
 abbrev pub ReadNeverShifts : Type 0
 ReadNeverShifts =
-    (rec : Record) (mem : List ℕ) (wait : ℕ) → Waits rec mem true Empty wait → decided rec mem 3 0x00 wait .rec .shift ≡ rec .shift
+    (rec : Record) (mem : List ℕ) (wait : ℕ) → Waits rec mem true Empty wait
+    → decided rec mem 3 0x00 wait .rec .shift ≡ rec .shift
 
 -- Changing N moves nothing: a Function Set leaves the counter, the shift and every cell where they were.
 abbrev pub FunctionMovesNothing : Type 0

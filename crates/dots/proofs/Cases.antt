@@ -21,14 +21,14 @@ use Rattle.controller.specs.Instruction.{decoded, bit}
 use Rattle.controller.specs.Record.{busyOver}
 use Rattle.controller.specs.declared.decision.Decision.{Decision}
 use Rattle.controller.specs.declared.«record».Half.the-variants.{Empty}
-use Rattle.controller.specs.Cells.{addOfCell, lineLength, wrapped}
+use Rattle.controller.specs.Cells.{addOfCell, wrapped}
 use Rattle.dots.specs.declared.geometry.Shown.{Shown}
 use Rattle.dots.specs.declared.geometry.Shown.the-variants.{Cell, Undriven}
 use Rattle.dots.specs.declared.geometry.Size.{Size}
 use Rattle.dots.specs.Cases.{LinesStart, P5, P7}
 use Rattle.dots.specs.Font.{font}
-use Rattle.dots.specs.Geometry.{cellIn, drivenLines}
-use Rattle.dots.specs.Picture.{answerFor, pictureByte, cellRow, covered, dotsAt, output, patternRow, rowOf, shownRow}
+use Rattle.dots.specs.Geometry.{cellIn}
+use Rattle.dots.specs.Picture.{answerFor, pictureByte, cellRow, covered, dotsAt, output, rowOf, shownRow}
 
 -- what 18h and 1Ch do
 shift-taken : (rec : Record) (mem : List ℕ) (wait : ℕ) (left : Bool) → Waits rec mem true Empty wait
@@ -52,7 +52,7 @@ p5 true rec mem wait later w n s = started rec mem wait w n s
 p5 false rec mem wait later w n s =
     let whole = started (atWidth true rec) mem wait (wide-waits rec mem wait w) n s in
     let same : (byte : ℕ) (good : badTransfer 0 byte ≡ false) (is-byte : byte < 256) (first second : ℕ)
-        → LinesStart (decided (atWidth true rec) mem 0 byte wait .rec) first second → LinesStart (taking false rec mem 0 byte wait later .rec) first second =
+    → LinesStart (decided (atWidth true rec) mem 0 byte wait .rec) first second → LinesStart (taking false rec mem 0 byte wait later .rec) first second =
     λ byte good is-byte first second.
     subst (λ (r : Record). LinesStart r first second) (sym (halves-make-whole rec mem 0 byte wait later w good is-byte .alike .rec)) in
     (same 0x18 refl (omega arith) 0x01 0x41 (whole .0), same 0x1C refl (omega arith) 0x27 0x67 (whole .1))

@@ -10,7 +10,6 @@ use borrow.Author.Tests.{ltb-true}
 use lib.Dec.{ltb}
 use Rattle.controller.specs.declared.«record».Function.{Function}
 use Rattle.controller.specs.declared.«record».Record.{Record}
-use Rattle.controller.specs.Cells.{lineLength}
 use Rattle.dots.specs.declared.geometry.Shown.the-variants.{Cell, Undriven}
 use Rattle.dots.specs.declared.geometry.Size.{Size}
 use Rattle.dots.specs.Geometry.{ShownWithin, cellAt, cellIn, height, tallest}

@@ -1,6 +1,6 @@
 -- The theorems of specs/Theorems.antt, but for the two of the table, which stand in Table.antt.
 -- Assumes nothing.
-use mathlib.Core.Bool.{Bool, true, false, cond, not}
+use mathlib.Core.Bool.{Bool, true, false, cond}
 use mathlib.Core.List.{List}
 use mathlib.Core.Logic.{_↔_}
 use mathlib.Core.Path.{_≡_, refl, sym, ap, fun-ext, _∙_}
@@ -10,7 +10,6 @@ use native.Mathlib.Omega.{arith}
 use borrow.Author.Tests.{eq-eqb, lt-ltb, ltb-true, ne-eqb}
 use lib.Dec.{ltb, lit<}
 use lib.ListN.{length, getD}
-use Rattle.controller.specs.declared.answers.Answer.the-variants.{Done, Unsound, NotWhole, BadSize, OutputShort}
 use Rattle.controller.specs.declared.«record».Record.{Record}
 use Rattle.controller.specs.Bus.{whole}
 use Rattle.controller.specs.Cells.{lineLength}
@@ -21,9 +20,9 @@ use Rattle.controller.proofs.Laws.Choice.{and-left, and-right}
 use Rattle.dots.specs.declared.geometry.Shown.{Shown}
 use Rattle.dots.specs.declared.geometry.Shown.the-variants.{Cell, Undriven}
 use Rattle.dots.specs.declared.geometry.Size.{Size}
-use Rattle.dots.specs.Font.{font, tableRow}
+use Rattle.dots.specs.Font.{font}
 use Rattle.dots.specs.Geometry.{cellIn, drivenLines, height, isShownIn, pictureLength}
-use Rattle.dots.specs.Picture.{answerFor, answered, pictureByte, cellRow, covered, dotsAt, isOn, cursorSets, output, outputLeft, painted, patternRow, rowOf, shownRow}
+use Rattle.dots.specs.Picture.{answerFor, answered, pictureByte, cellRow, covered, dotsAt, cursorSets, output, outputLeft, painted, rowOf, shownRow}
 use Rattle.dots.specs.Theorems.{CursorShows, Draws, EachByte, FAltersNothing, FiveDots, LaterStay, OffDark, OnGlass, OnePicture, OnePosition, PictureAnswers, PictureRefusals, SecondLineDark, rowsFor}
 use Rattle.dots.proofs.Answers.{glass-columns, passed}
 use Rattle.dots.proofs.Logic.{and-false, either, of-either, or-true}

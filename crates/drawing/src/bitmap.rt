@@ -1,7 +1,7 @@
 // The dots as a portable bitmap: each place of the grid is eight pixels wide and high, the last of them empty, so that a byte of
 // the bitmap is one place and the dots stand apart.
 ghost use mathlib.Core.Path.{_≡_};
-ghost use Prim.Native.Nat.{_≤_, _<_};
+ghost use Prim.Native.Nat.{_≤_};
 ghost use Rattle.drawing.specs.Bitmap.{bitmapHead, headFor, pixelsAt};
 ghost use Rattle.drawing.specs.Grid.{Small};
 use crate::grid::Grid;

@@ -1,7 +1,4 @@
 // The picture of a record of 24 bytes and a memory of 144.
-ghost use mathlib.Core.Bool.{not};
-ghost use mathlib.Core.Path.{_≡_};
-ghost use lib.Dec.{eqb};
 ghost use Rattle.interface.specs.Filling.{Fills};
 ghost use Rattle.interface.specs.PictureCalls.{drawingOf, pictureCall};
 use crate::record_bytes::ReadRecord;

@@ -18,8 +18,8 @@ use Rattle.player.specs.Report.{rowsOf}
 use Rattle.player.specs.Standing.{leaving}
 
 -- What is written of a report's text: all of it where rows are wanted, and else nothing.
-abbrev pub wanted : Bool → List ℕ → List ℕ
-wanted rows text = cond rows text []
+abbrev pub bytesWanted : Bool → List ℕ → List ℕ
+bytesWanted rows text = cond rows text []
 
 -- The controller at a place.
 abbrev pub stateAt : Place → List ℕ → State
@@ -45,8 +45,8 @@ unfoldable pub walked : Bool → Place → List ℕ → List ℕ → Session →
 walked rows place mem out session =
     record {
       stands = leaving (place .number) (stateAt place mem) session;
-      at = place .at + length (wanted rows (rowsOf (place .number) (stateAt place mem) session));
-      out = sets out (place .at) (wanted rows (rowsOf (place .number) (stateAt place mem) session));
+      at = place .at + length (bytesWanted rows (rowsOf (place .number) (stateAt place mem) session));
+      out = sets out (place .at) (bytesWanted rows (rowsOf (place .number) (stateAt place mem) session));
     }
 
 -- What is left of a text at this place, walked.
@@ -58,22 +58,22 @@ abbrev pub room : Bool → ℕ → ℕ
 room rows text = cond rows (6 * text + rowSize) 0
 
 -- A place in this text, with room in the buffer for the rows of what is left.
-pub record Fits (rows : Bool) (text out : List ℕ) (place : Place) : Type 0 where
+pub record HasRoom (rows : Bool) (text out : List ℕ) (place : Place) : Type 0 where
   pub inside : place .from ≤ length text
   pub counted : place .number ≤ place .from + 1
   pub enough : place .at + room rows (length text - place .from) ≤ length out
 
 -- A row written where rows are wanted.
-pub record Tells (rows : Bool) (text : List ℕ) (at : ℕ) (out : List ℕ) (next : ℕ) (out′ : List ℕ) : Type 0 where
-  pub after : next ≡ at + length (wanted rows text)
+pub record RowTold (rows : Bool) (text : List ℕ) (at : ℕ) (out : List ℕ) (next : ℕ) (out′ : List ℕ) : Type 0 where
+  pub after : next ≡ at + length (bytesWanted rows text)
   pub small : next ≤ at + room rows 0
-  pub buffer : out′ ≡ sets out at (wanted rows text)
+  pub buffer : out′ ≡ sets out at (bytesWanted rows text)
 
 -- The walk has gone on: what is left comes to the same.
 pub record Went (rows : Bool) (text : List ℕ) (place : Place) (mem out : List ℕ) (next : Place) (mem′ out′ : List ℕ)
     : Type 0 where
   pub further : place .from < next .from
-  pub fits : Fits rows text out′ next
+  pub fits : HasRoom rows text out′ next
   pub left : walkedFrom rows text next mem′ out′ ≡ walkedFrom rows text place mem out
 
 -- A line played: the walk goes on after it, or it was a bad one and ends the walk.

@@ -4,7 +4,7 @@ ghost use Prim.Native.Nat.{_+_, _<_, _≤_};
 ghost use lib.ListN.{length};
 ghost use Rattle.controller.specs.Answers.{numberOf};
 ghost use Rattle.lines.specs.ReportText.{row};
-ghost use Rattle.player.specs.Walk.{Fits, Played, Tells, endedAt, room, walkedFrom};
+ghost use Rattle.player.specs.Walk.{HasRoom, Played, RowTold, endedAt, room, walkedFrom};
 use controller::Answer;
 use controller::Record;
 use controller::is_done;
@@ -40,7 +40,7 @@ fn tell(
     at: usize,
 ) -> usize
     requires { ⌜ at + room rows 0 ≤ length (now out) ⌝ }
-    ensures { λ r. ⌜ Tells rows (row line (numberOf answer) byte busy) at (now (out .entry)) r (now (out .exit)) ⌝ }
+    ensures { λ r. ⌜ RowTold rows (row line (numberOf answer) byte busy) at (now (out .entry)) r (now (out .exit)) ⌝ }
 {
     if !rows {
         return at;
@@ -51,7 +51,7 @@ fn tell(
 
 // Plays the line at a place. A bad one is told, and nothing is sent.
 fn play_line(text: &[u8], rows: bool, place: Place, memory: &mut [u8], out: &mut [u8]) -> Ended
-    requires { ⌜ Fits rows (now text) (now out) place × (place .from < length (now text)) ⌝ }
+    requires { ⌜ HasRoom rows (now text) (now out) place × (place .from < length (now text)) ⌝ }
     ensures { λ r. ⌜ Played rows (now (text .entry)) place (now (memory .entry)) (now (out .entry))
         r (now (memory .exit)) (now (out .exit)) ⌝ }
 {
@@ -92,7 +92,7 @@ fn play_line(text: &[u8], rows: bool, place: Place, memory: &mut [u8], out: &mut
 
 // Plays what is left of a text from a place on, to its end or to a bad line.
 pub fn walk(text: &[u8], rows: bool, start: Place, memory: &mut [u8], out: &mut [u8]) -> Ended
-    requires { ⌜ Fits rows (now text) (now out) start ⌝ }
+    requires { ⌜ HasRoom rows (now text) (now out) start ⌝ }
     ensures { λ r. ⌜ endedAt (r .answer) (r .place) (now (memory .exit)) (now (out .exit))
         ≡ walkedFrom rows (now (text .entry)) start (now (memory .entry)) (now (out .entry)) ⌝ }
 {

@@ -1,6 +1,5 @@
 -- The demands, cited where their parts are proved; here only that a refused writer of text leaves its buffer.
 -- Assumes nothing.
-use mathlib.Core.Bool.{true, false}
 use mathlib.Core.List.{List, []}
 use mathlib.Core.Path.{_≡_, refl, ap, _∙_}
 use Prim.Native.Nat.{ℕ}
@@ -9,6 +8,8 @@ use lib.ListN.{length}
 use Rattle.controller.proofs.Laws.Choice.{cond-elim}
 use Rattle.controller.proofs.Laws.Taken.{taken}
 use Rattle.controller.proofs.Theorems.Answers.{transfer-answers, reset-answers}
+use Rattle.controller.proofs.Theorems.Halves.{halves-make-whole}
+use Rattle.controller.proofs.Theorems.Rules.{data-rules, instruction-rules}
 use Rattle.controller.proofs.Theorems.Refusals.{transfer-refusals, reset-refusals}
 use Rattle.controller.proofs.Theorems.Sound.{transfer-keeps-sound, reset-makes-sound, effects-fit}
 use Rattle.controller.specs.Bus.{badTransfer}
@@ -88,6 +89,9 @@ demand-1 =
 pub demand-2 : Demand2
 demand-2 =
     record {
+      instructions = instruction-rules;
+      transfers = data-rules;
+      halves = halves-make-whole;
       taken = taken;
       kept = transfer-keeps-sound;
       reset = reset-makes-sound;

@@ -1,7 +1,7 @@
 -- One general law: what is promised by an equation is one result, and no second. Each public function is an instance.
 -- Assumes nothing.
 use mathlib.Core.List.{List}
-use mathlib.Core.Path.{_≡_, refl, ap, _∙_}
+use mathlib.Core.Path.{_≡_, refl, ap}
 use Prim.Native.Nat.{ℕ}
 use Rattle.lines.specs.Text.{Put, put}
 use Rattle.promises.specs.Determined.{ExactlyOne, EachDetermined}

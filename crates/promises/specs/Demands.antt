@@ -8,6 +8,7 @@ use mathlib.Core.Bool.{true, false}
 use Rattle.controller.specs.Bus.{badTransfer, mustWait, decided}
 use Rattle.controller.specs.Halves.{accepted}
 use Rattle.controller.specs.Record.{sound, waited}
+use Rattle.controller.specs.Rules.{DataRules, HalvesMakeWhole, InstructionRules}
 use Rattle.controller.specs.declared.«record».Record.{Record}
 use Rattle.controller.specs.Answers.{numberOf}
 use Rattle.controller.specs.Theorems.{TransferKeepsSound, ResetMakesSound, EffectsFit, TransferRefusals, ResetRefusals}
@@ -55,10 +56,13 @@ TakenUnlessRefused =
     → mustWait kind (waited wait rec) ≡ false → decided rec mem kind byte wait ≡ accepted mem kind byte (waited wait rec)
 
 -- 2. Each bus transfer answers and leaves its controller as set out in document 01: that is the promise of `transfer`, with the
--- definitions it cites. It keeps a sound record sound and its effect within the memory; the dots on the glass are the picture's
--- definition, byte by byte. A session line, once written, reads back as the same transfer, and a line that was read is written
--- out the same.
+-- definitions it cites, and the rules say it once more, field by field, at width 8, and at width 4 by halves. It keeps a sound
+-- record sound and its effect within the memory; the dots on the glass are the picture's definition, byte by byte. A session line,
+-- once written, reads back as the same transfer, and a line that was read is written out the same.
 pub record Demand2 : Type 0 where
+  pub instructions : InstructionRules
+  pub transfers : DataRules
+  pub halves : HalvesMakeWhole
   pub taken : TakenUnlessRefused
   pub kept : TransferKeepsSound
   pub reset : ResetMakesSound

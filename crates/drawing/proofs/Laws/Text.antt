@@ -13,8 +13,7 @@ use Rattle.controller.specs.declared.«record».Half.{Half}
 use Rattle.controller.specs.declared.«record».Half.the-variants.{Empty, InstructionWrite, DataWrite, StatusRead, DataRead}
 use Rattle.controller.specs.declared.«record».Record.{Record}
 use Rattle.lines.specs.Text.{bytesOf}
-use Rattle.drawing.specs.Numbers.{twoWide}
-use Rattle.drawing.specs.State.{onOff, memoryShown, halfShown, writeShown, readShown, linesShown, shownFields, counterField}
+use Rattle.drawing.specs.State.{onOff, memoryShown, halfShown, linesShown, shownFields, counterField}
 
 -- a field and what follows it, byte by byte
 pub memory-bytes : (counter : Counter) (rest : List ℕ)

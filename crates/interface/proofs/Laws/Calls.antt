@@ -4,19 +4,16 @@ use mathlib.Core.Bool.{true}
 use mathlib.Core.List.{List}
 use mathlib.Core.Path.{_≡_, refl, ap, subst, _∙_}
 use Prim.Native.Nat.{ℕ, _+_, _*_}
-use lib.ListN.{length}
-use borrow.Author.Tests.{eqb-true}
-use Rattle.controller.specs.declared.answers.Answer.the-variants.{Done, Unsound}
+use Rattle.controller.specs.declared.answers.Answer.the-variants.{Done}
 use Rattle.controller.specs.declared.decision.Decision.{Decision}
 use Rattle.controller.specs.declared.decision.Outcome.{Outcome}
 use Rattle.controller.specs.declared.«record».Record.{Record}
-use Rattle.controller.specs.Bus.{decided, resetDecided, whole}
+use Rattle.controller.specs.Bus.{resetDecided, whole}
 use Rattle.controller.specs.Bus as Bus
 use Rattle.controller.specs.Answers.{numberOf}
 use Rattle.controller.specs.Decision.{performed, outcomeOf}
-use Rattle.interface.specs.declared.record_bytes.ReadRecord.the-variants.{Is, Broken}
-use Rattle.interface.specs.ControllerCalls.{Left, Leaves, callOf, transferFrom, transferCall}
-use Rattle.interface.specs.RecordBytes.{recordBytes, recordFrom, isRecordLong, recordIn}
+use Rattle.interface.specs.ControllerCalls.{Left, Leaves, callOf}
+use Rattle.interface.specs.RecordBytes.{recordBytes, recordFrom}
 
 -- an outcome that tells a decision, left in its bytes, and the effect performed
 pub left-meets : (d : Decision) (mem : List ℕ) (outcome : Outcome) {returned : ℕ} {bytes after : List ℕ}

@@ -1,21 +1,16 @@
 -- Laws of the calls that write into one lent buffer.
 -- Assumes nothing.
-use mathlib.Core.Bool.{Bool}
 use mathlib.Core.List.{List}
 use mathlib.Core.Logic.{⊎-elim}
-use mathlib.Core.Path.{_≡_, refl, ap, subst, _∙_}
+use mathlib.Core.Path.{_≡_, ap, subst, _∙_}
 use Prim.Native.Nat.{ℕ, _+_, _*_, _≤_}
 use native.Mathlib.Omega.{arith}
 use lib.Dec.{ltb}
 use lib.ListN.{length}
-use Rattle.controller.specs.declared.answers.Answer.{Answer}
-use Rattle.controller.specs.declared.answers.Answer.the-variants.{BadTransfer, OutputShort, Unsound}
-use Rattle.controller.specs.declared.«record».Record.{Record}
+use Rattle.controller.specs.declared.answers.Answer.the-variants.{BadTransfer, OutputShort}
 use Rattle.controller.specs.Bus.{badTransfer}
 use Rattle.controller.specs.Answers.{numberOf}
 use Rattle.controller.proofs.Laws.Choice.{cond-elim}
-use Rattle.dots.specs.declared.geometry.Size.{Size}
-use Rattle.dots.specs.Picture.{Pictured}
 use Rattle.lines.specs.declared.writer.Written.{Written}
 use Rattle.lines.specs.Line.{line, waitLimit}
 use Rattle.lines.specs.Writing.{Writing, lineWriting, refusing, wanting, writing}
@@ -24,11 +19,8 @@ use Rattle.lines.specs.declared.reader.Line.{Line}
 use Rattle.lines.specs.Reading.{lineOf}
 use Rattle.lines.proofs.Theorems.Read.{reader-answers, read-is-sayable}
 use Rattle.lines.proofs.Theorems.Written.{lines-fit}
-use Rattle.interface.specs.declared.record_bytes.ReadRecord.the-variants.{Broken}
 use Rattle.interface.specs.Filling.{Fills}
 use Rattle.interface.specs.LineCalls.{fillingOf, readCall, stored}
-use Rattle.interface.specs.PictureCalls.{drawingOf, pictureFrom}
-use Rattle.interface.specs.RecordBytes.{recordIn}
 
 -- a text that was written
 pub written-fills : (w : Writing) (out : List ℕ) (told : Written) {returned : ℕ} {after : List ℕ}

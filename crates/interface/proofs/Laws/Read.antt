@@ -12,7 +12,7 @@ use Rattle.controller.specs.declared.«record».Record.{Record}
 use Rattle.planner.specs.declared.wish.Wish.{Wish}
 use Rattle.interface.specs.declared.record_bytes.ReadRecord.the-variants as ReadRecord
 use Rattle.interface.specs.declared.wish_bytes.ReadWish.the-variants as ReadWish
-use Rattle.interface.specs.RecordBytes.{recordBytes, recordFrom, isRecordLong, recordIn, recordAs, sameBytes}
+use Rattle.interface.specs.RecordBytes.{recordBytes, recordFrom, recordIn, recordAs, sameBytes}
 use Rattle.interface.specs.WishBytes.{wishAs, wishBytes, wishFrom, wishIn}
 use Rattle.interface.proofs.Laws.Same.{same-eq}
 

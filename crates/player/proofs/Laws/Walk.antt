@@ -30,7 +30,7 @@ use Rattle.player.specs.declared.walk.Ended.{Ended}
 use Rattle.player.specs.declared.walk.Place.{Place}
 use Rattle.player.specs.Session.{Session, endedBy, following, sentOf, sessionOf}
 use Rattle.player.specs.Report.{rowAt, rowsOf, start, report, reportSize}
-use Rattle.player.specs.Walk.{wanted, stateAt, Walked, endedAt, walked, walkedFrom, room, Fits, Tells, Played}
+use Rattle.player.specs.Walk.{bytesWanted, stateAt, Walked, endedAt, walked, walkedFrom, room, HasRoom, RowTold, Played}
 use Rattle.player.proofs.Laws.Session.{line-long, session-none, session-more, session-bad, rows-none, rows-last, rows-more, leaving-last, leaving-more, header-length}
 use Rattle.player.proofs.Theorems.Fits.{report-fits}
 
@@ -56,14 +56,14 @@ put-back text out at fits =
     ∙ sym (sets-eq text out at fits)
 
 -- no row
-pub tells-nothing : {rows : Bool} {text : List ℕ} {at : ℕ} {out : List ℕ} → rows ≡ false → Tells rows text at out at out
+pub tells-nothing : {rows : Bool} {text : List ℕ} {at : ℕ} {out : List ℕ} → rows ≡ false → RowTold rows text at out at out
 tells-nothing is = rw is (record { after = omega arith; small = omega arith; buffer = refl })
 
 -- a row, written into the end of the buffer: with a number of 64 bits and a busy time of 32 it has at most 42 bytes
 pub tells-row : {rows : Bool} {out : List ℕ} {at line busy n : ℕ} (answer : Answer) (byte : ℕ) {written : Written} {part : List ℕ}
     → line < 2 ^ 64 → busy < 2 ^ 32 → rows ≡ true → n ≡ numberOf answer → at + room rows 0 ≤ length out
     → Writes (wanting rowSize (row line n byte busy) (take (length out - at) (drop at out))) (take (length out - at) (drop at out)) written part
-    → Tells rows (row line (numberOf answer) byte busy) at out (at + written .length) (putMid at (length out - at) out part)
+    → RowTold rows (row line (numberOf answer) byte busy) at out (at + written .length) (putMid at (length out - at) out part)
 tells-row {rows} {out} {at} {line} {busy} answer byte few short is is-number enough meets =
     let text = row line (numberOf answer) byte busy in
     let small = row-fits line (numberOf answer) byte busy (omega arith) (omega (arith, number-below answer)) (omega arith) in
@@ -77,11 +77,11 @@ tells-row {rows} {out} {at} {line} {busy} answer byte few short is is-number eno
     })
 
 -- what is wanted of no text, and of one text after another
-wanted-none : (rows : Bool) → wanted rows [] ≡ []
+wanted-none : (rows : Bool) → bytesWanted rows [] ≡ []
 wanted-none true = refl
 wanted-none false = refl
 
-wanted-more : (rows : Bool) (a b : List ℕ) → wanted rows (a ++ b) ≡ wanted rows a ++ wanted rows b
+wanted-more : (rows : Bool) (a b : List ℕ) → bytesWanted rows (a ++ b) ≡ bytesWanted rows a ++ bytesWanted rows b
 wanted-more true a b = refl
 wanted-more false a b = refl
 
@@ -94,7 +94,7 @@ module _ (rows : Bool) (place : Place) (mem out : List ℕ) where
 
   -- at a bad line
   walked-bad : (answer : Answer) {at : ℕ} {out′ : List ℕ} → isDone answer ≡ false
-      → Tells rows (row (place .number) (numberOf answer) 0 (place .rec .busy)) (place .at) out at out′
+      → RowTold rows (row (place .number) (numberOf answer) 0 (place .rec .busy)) (place .at) out at out′
       → endedAt answer (record { from = place .from; at = at; number = place .number; rec = place .rec }) mem out′ ≡ walked rows place mem out (endedBy answer)
   unfolding walked
   walked-bad answer bad tells =
@@ -103,17 +103,17 @@ module _ (rows : Bool) (place : Place) (mem out : List ℕ) where
   -- one transfer more
   walked-more : (t : Sent) (s : Session) (next : Place) {mem′ out′ : List ℕ} → next .number ≡ place .number + 1
       → stateAt next mem′ ≡ after (stateAt place mem) (decidedOf (stateAt place mem) t)
-      → Tells rows (rowAt (place .number) (toldOf (decidedOf (stateAt place mem) t))) (place .at) out (next .at) out′
+      → RowTold rows (rowAt (place .number) (toldOf (decidedOf (stateAt place mem) t))) (place .at) out (next .at) out′
       → walked rows next mem′ out′ s ≡ walked rows place mem out (following t s)
   unfolding walked
   walked-more t s next {mem′} {out′} counted runs tells =
       let state = stateAt place mem in
-      let own = wanted rows (rowAt (place .number) (toldOf (decidedOf state t))) in
+      let own = bytesWanted rows (rowAt (place .number) (toldOf (decidedOf state t))) in
       let rest = rowsOf (place .number + 1) (after state (decidedOf state t)) s in
-      let all : wanted rows (rowsOf (place .number) state (following t s)) ≡ own ++ wanted rows rest =
-      ap (wanted rows) (rows-more (place .number) state t s) ∙ wanted-more rows _ rest in
-      let long : place .at + length own + length (wanted rows rest) ≡ place .at + length (own ++ wanted rows rest) =
-      omega (arith, length-append own (wanted rows rest)) in
+      let all : bytesWanted rows (rowsOf (place .number) state (following t s)) ≡ own ++ bytesWanted rows rest =
+      ap (bytesWanted rows) (rows-more (place .number) state t s) ∙ wanted-more rows _ rest in
+      let long : place .at + length own + length (bytesWanted rows rest) ≡ place .at + length (own ++ bytesWanted rows rest) =
+      omega (arith, length-append own (bytesWanted rows rest)) in
       simp (all, counted, runs, tells .after, tells .buffer, leaving-more (place .number) state t s, sets-append, long)
 
 -- room for the rest after a line of at least 7 bytes, whose row took at most 42
@@ -127,7 +127,7 @@ pub room-row : (rows : Bool) (at text : ℕ) {out : ℕ} → at + room rows text
 room-row true at text enough = omega arith
 room-row false at text enough = enough
 
-module _ {rows : Bool} {text : List ℕ} {place : Place} {out : List ℕ} (fits : Fits rows text out place) (some : place .from < length text)
+module _ {rows : Bool} {text : List ℕ} {place : Place} {out : List ℕ} (fits : HasRoom rows text out place) (some : place .from < length text)
     {line : Line} (read : line ≡ lineOf (take (length text - place .from) (drop (place .from) text))) where
   is-line : line ≡ lineOf (drop (place .from) text)
   is-line = read ∙ ap lineOf (tail text (place .from))
@@ -147,7 +147,7 @@ module _ {rows : Bool} {text : List ℕ} {place : Place} {out : List ℕ} (fits 
 
   -- a bad line ends the walk
   pub line-stops : {mem : List ℕ} {at : ℕ} {out′ : List ℕ} → isDone (line .answer) ≡ false
-      → Tells rows (row (place .number) (numberOf (line .answer)) 0 (place .rec .busy)) (place .at) out at out′
+      → RowTold rows (row (place .number) (numberOf (line .answer)) 0 (place .rec .busy)) (place .at) out at out′
       → Played rows text place mem out
       (record { answer = line .answer; place = record { from = place .from; at = at; number = place .number; rec = place .rec } }) mem out′
   line-stops {mem} bad tells =
@@ -161,7 +161,7 @@ module _ {rows : Bool} {text : List ℕ} {place : Place} {out : List ℕ} (fits 
   -- a line that stands carries it on
   pub line-goes : {mem : List ℕ} {told : Outcome} {mem′ : List ℕ} {at : ℕ} {out′ : List ℕ} → isDone (line .answer) ≡ true
       → Performs (decidedOf (stateAt place mem) (sentOf line)) mem told mem′
-      → Tells rows (row (place .number) (numberOf (told .answer)) (told .byte) (told .rec .busy)) (place .at) out at out′
+      → RowTold rows (row (place .number) (numberOf (told .answer)) (told .byte) (told .rec .busy)) (place .at) out at out′
       → Played rows text place mem out
       (record {
         answer = line .answer;
@@ -199,7 +199,7 @@ text-over rows text place mem out over =
 
 -- after the header there is room for the rows
 pub report-begins : (text : List ℕ) (rec : Record) {out out₁ : List ℕ} {head : Written} → reportSize text ≤ length out → length out₁ ≡ length out
-    → Writes (wanting 20 header out) out head out₁ → Fits true text out₁ (record { from = 0; at = head .length; number = 1; rec = rec })
+    → Writes (wanting 20 header out) out head out₁ → HasRoom true text out₁ (record { from = 0; at = head .length; number = 1; rec = rec })
 report-begins text rec {out} enough same meets =
     let long = writes 20 header out (omega arith) meets .0 ∙ header-length in
     record { inside = omega arith; counted = omega arith; enough = omega arith }

@@ -1,7 +1,6 @@
 -- `dots::draw::is_on` meets its contract: a counter on a display cell is compared with the cell, one on a pattern cell is on
 -- none.
 -- Assumes nothing.
-use Rattle.dots.specs.Picture.{isOn}
 use borrow.Author.Needs.{needs}
 use Rattle.dots.proofs.draw.is_on.Statement.{statement}
 use Rattle.dots.proofs.draw.is_on.Tie as tie

@@ -1,7 +1,5 @@
 -- `dots::geometry::cell_at` meets its contract: N=1 drives two lines of 40 cells, N=0 one of 80.
 -- Assumes nothing.
-use Rattle.controller.specs.Cells.{lineLength}
-use Rattle.dots.specs.Geometry.{drivenLines}
 use borrow.Author.Needs.{needs}
 use Rattle.dots.proofs.geometry.cell_at.Statement.{statement}
 use Rattle.dots.proofs.geometry.cell_at.Tie as tie

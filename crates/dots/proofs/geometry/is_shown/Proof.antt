@@ -1,7 +1,6 @@
 -- `dots::geometry::is_shown` meets its contract: N says how many lines are driven and how long they are.
 -- Assumes nothing.
-use Rattle.dots.specs.Geometry.{isShownIn, drivenLines}
-use Rattle.controller.specs.Cells.{lineLength}
+use Rattle.dots.specs.Geometry.{isShownIn}
 use borrow.Author.Needs.{needs}
 use Rattle.dots.proofs.geometry.is_shown.Statement.{statement}
 use Rattle.dots.proofs.geometry.is_shown.Tie as tie

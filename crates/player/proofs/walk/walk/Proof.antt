@@ -6,7 +6,7 @@ use lib.ListN.{length}
 use native.Mathlib.Omega.{arith}
 use borrow.Author.Tests.{not-true, not-false}
 use borrow.Author.Needs.{needs}
-use Rattle.player.specs.Walk.{Fits, walkedFrom}
+use Rattle.player.specs.Walk.{HasRoom, walkedFrom}
 use Rattle.player.proofs.Laws.Walk.{text-over}
 use Rattle.player.proofs.walk.walk.Statement.{statement}
 use Rattle.player.proofs.walk.walk.Tie as tie
@@ -15,7 +15,7 @@ abbrev Inv-loop : tie.InvT-loop
 Inv-loop text rows memory₀ out₀ place₀ memory out place =
     (length memory ≡ length memory₀)
     × (length out ≡ length out₀)
-    × Fits rows text out place
+    × HasRoom rows text out place
     × (walkedFrom rows text place memory out ≡ walkedFrom rows text place₀ memory₀ out₀)
 
 abbrev μ-loop : tie.MeasureT-loop
