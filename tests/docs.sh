@@ -88,6 +88,8 @@ sed -n 's/^pub use .*::\([a-z][a-z0-9_]*\);/\1/p' crates/*/src/lib.rt > "$work/f
     sed -n 's/^| `\([a-z_]*\)` |.*/\1/p' docs/PROMISES.md
 } > "$work/promised"
 all_in 'a public function without its promise in PROMISES.md' "$work/functions" "$work/promised"
+sed -n 's/^  pub \([a-z-]*\) :.*/\1/p' crates/promises/specs/Determined.antt | tr - _ > "$work/determined"
+all_in 'a public function that EachDetermined lacks' "$work/functions" "$work/determined"
 
 # --- Definitions: `Module.name` is defined in specs/Module.antt, `module::name` in src/module.rt of some crate.
 grep -E '^[A-Z][A-Za-z0-9]*\.[A-Za-z0-9]+$' "$work/spans" > "$work/definitions_named"
