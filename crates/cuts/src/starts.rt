@@ -3,6 +3,7 @@ use controller::Counter;
 use controller::Half;
 use controller::Record;
 use controller::after_reset;
+use controller::long_time;
 
 // How many starting records there are.
 pub const STARTS: u8 = 14;
@@ -66,7 +67,7 @@ pub fn start_of(start: u8) -> Record {
     match start {
         0 => after_reset(),
         1 => unruly(true, Counter::Pattern(63), true, 0, Half::Empty),
-        2 => unruly(false, Counter::Display(39), false, 1_640, Half::Empty),
+        2 => unruly(false, Counter::Display(39), false, long_time(), Half::Empty),
         3 => instruction_halved(0x0),
         4 => instruction_halved(0x1),
         5 => instruction_halved(0x2),

@@ -12,12 +12,12 @@ use Rattle.controller.specs.Cells.{lineLength}
 use Rattle.controller.specs.Answers.{numberOf, Row, Given}
 use Rattle.controller.specs.Record.{sound}
 use Rattle.controller.specs.declared.sent.Sent.{Sent}
-use Rattle.controller.specs.Runs.{State, ran}
+use Rattle.controller.specs.Runs.{State, heard, ran}
 use Rattle.controller.specs.declared.answers.Answer.the-variants.{Done}
 use Rattle.planner.specs.declared.call.Planned.{Planned}
 use Rattle.planner.specs.declared.wish.Wish.{Wish}
 use Rattle.planner.specs.Call.{replyTo, wanted, Plans}
-use Rattle.planner.specs.Demand.{Bytes, excepted}
+use Rattle.planner.specs.Demand.{Bytes, EachBegun, NoneBusy, Spared, Stands, Whole, excepted, joined}
 use Rattle.controller.specs.Sent.{sentAt}
 use Rattle.planner.specs.Plan.{single, planOf}
 use Rattle.planner.specs.Wish.{isWish}
@@ -119,6 +119,18 @@ readBack (suc count) bytes = sentAt bytes ∷ readBack count (drop 6 bytes)
 -- What the buffer holds after an accepted call, read back as transfers, is the plan of demand 3.
 abbrev pub BoardSendsPlan : Type 0
 BoardSendsPlan =
-    (wish : Wish) (marks values out : List ℕ) (returned : Planned) (after : List ℕ) → Bytes values
+    (wish : Wish) (marks values out : List ℕ) (returned : Planned) (after : List ℕ)
     → Plans (replyTo wish marks values out) out returned after → returned .answer ≡ Done
     → (isWish wish marks ≡ true) × (readBack (returned .count) after ≡ planOf wish marks values)
+
+-- Demand 3, from an accepted call to the panel: what a board reads back from the buffer, begun as often as you like and then sent
+-- whole, leaves the panel as wished.
+abbrev pub PlannedRuns : Type 0
+PlannedRuns =
+    (wish : Wish) (marks values out : List ℕ) (returned : Planned) (after : List ℕ)
+    → Plans (replyTo wish marks values out) out returned after → returned .answer ≡ Done → Bytes values
+    → (start : State) (cut : List (List Sent)) (last : List Sent) → sound (start .rec) ≡ true → length (start .mem) ≡ 144
+    → EachBegun (readBack (returned .count) after) cut → Whole (readBack (returned .count) after) last
+    → Stands wish marks values (ran start (joined cut last))
+    × NoneBusy (heard start (joined cut last))
+    × Spared marks start (ran start (joined cut last) .mem)

@@ -23,8 +23,7 @@ use Rattle.lines.proofs.Theorems.Read.{reader-answers, read-writes-back}
 use Rattle.lines.proofs.Theorems.Written.{written-reads-back}
 use Rattle.lines.specs.Writing.{Writing, onto, wanting, lineWriting}
 use Rattle.lines.specs.declared.writer.Written.{Written}
-use Rattle.planner.proofs.Demand.Theorem.{cut-runs}
-use Rattle.planner.proofs.Theorems.Plan.{board-sends-plan}
+use Rattle.planner.proofs.Theorems.Plan.{planned-runs}
 use Rattle.planner.proofs.Theorems.Wish.{not-wishes, plan-answers, plan-refusals}
 use Rattle.player.proofs.Theorems.One.{play-answers}
 use Rattle.player.specs.Report.{report, reportSize, playing}
@@ -103,5 +102,5 @@ demand-2 =
       one-reading = one-reading;
     }
 
-pub demands-3 : Demand3
-demands-3 = record { runs = cut-runs; bytes = board-sends-plan }
+pub demand-3 : Demand3
+demand-3 = planned-runs

@@ -18,8 +18,7 @@ use Rattle.interface.specs.Theorems.{CallRefusals}
 use Rattle.lines.specs.Theorems.{WrittenReadsBack, ReadWritesBack, OneReading}
 use Rattle.lines.specs.Writing.{Writing, Writes, wanting, lineWriting}
 use Rattle.lines.specs.declared.writer.Written.{Written}
-use Rattle.planner.specs.Demand.{CutRuns}
-use Rattle.planner.specs.Theorems.{NotWishes, PlanRefusals, BoardSendsPlan}
+use Rattle.planner.specs.Theorems.{NotWishes, PlanRefusals, PlannedRuns}
 use Rattle.player.specs.Report.{playing}
 use Rattle.promises.specs.Answers.{EachAnswer}
 use Rattle.promises.specs.Determined.{EachDetermined}
@@ -73,8 +72,7 @@ pub record Demand2 : Type 0 where
   pub read : ReadWritesBack
   pub one-reading : OneReading
 
--- 3. Any accepted wish, any sound controller, cut runs as often as you like and a whole one; and the bytes that a board sends
--- after an accepted call are that plan.
-pub record Demand3 : Type 0 where
-  pub runs : CutRuns
-  pub bytes : BoardSendsPlan
+-- 3. Any accepted wish, any sound controller, cut runs as often as you like and a whole one, of what a board reads back from the
+-- bytes of the accepted call.
+abbrev pub Demand3 : Type 0
+Demand3 = PlannedRuns

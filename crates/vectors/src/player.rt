@@ -10,6 +10,7 @@ use controller::Record;
 use controller::after_reset;
 use controller::is_refusal;
 use controller::reset;
+use controller::short_time;
 use controller::transfer;
 
 // The controller after a step, and whether a transfer of the step was refused.
@@ -72,7 +73,7 @@ fn fill(memory: &mut [u8; 144], played: Played) -> Played {
     let mut next = played;
     let mut cell = 0;
     while cell < 80 {
-        next = send(memory, 1, 0x21 + cell, 40, next);
+        next = send(memory, 1, 0x21 + cell, short_time(), next);
         cell += 1;
     }
     next

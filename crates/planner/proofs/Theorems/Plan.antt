@@ -2,7 +2,7 @@
 -- Assumes nothing.
 use mathlib.Core.Bool.{true, false, not, _&&_}
 use mathlib.Core.List.{List, [], _∷_, _++_}
-use mathlib.Core.Path.{_≡_, refl, sym, ap, _∙_}
+use mathlib.Core.Path.{_≡_, refl, sym, ap, subst, _∙_}
 use Prim.Native.Nat.{ℕ, _+_, _<_}
 use native.Mathlib.Omega.{arith}
 use lib.Dec.{eqb, ltb}
@@ -22,14 +22,15 @@ use Rattle.controller.specs.Runs.{State, ran}
 use Rattle.controller.specs.declared.answers.Answer.{Answer}
 use Rattle.controller.specs.declared.answers.Answer.the-variants.{Done}
 use Rattle.controller.specs.declared.«record».Half.the-variants.{DataWrite}
+use Rattle.planner.proofs.Demand.Theorem.{cut-runs}
 use Rattle.planner.proofs.Laws.Count.{plan-bound}
 use Rattle.planner.specs.declared.call.Planned.{Planned}
 use Rattle.planner.specs.declared.wish.Wish.{Wish}
 use Rattle.planner.specs.Call.{Reply, wanted, replyTo, laidOut}
-use Rattle.planner.specs.Demand.{halfWrite, excepted}
+use Rattle.planner.specs.Demand.{EachBegun, Whole, halfWrite, excepted}
 use Rattle.controller.proofs.Laws.Sent.{four-bytes}
 use Rattle.planner.specs.Plan.{Command, worth, counterAt, addressByte, cell, cellsBelow, commands, timeOf, inHalves, planOf, encoded}
-use Rattle.planner.specs.Theorems.{AtMost468, Reaches468, P12, ExceptionNeeded, BoardSendsPlan, all, readBack}
+use Rattle.planner.specs.Theorems.{AtMost468, Reaches468, P12, ExceptionNeeded, BoardSendsPlan, PlannedRuns, all, readBack}
 use Rattle.planner.specs.Wish.{marksFit, isWish, marked, follows}
 
 pub at-most-468 : AtMost468
@@ -95,7 +96,7 @@ accepted-reply wish marks values out =
 
 pub board-sends-plan : BoardSendsPlan
 unfolding laidOut
-board-sends-plan wish marks values out returned after bytes meets told =
+board-sends-plan wish marks values out returned after meets told =
     let reply = replyTo wish marks values out in
     let accepted = accepted-reply wish marks values out (sym (ap (λ (p : Planned). p .answer) (meets .told)) ∙ told) in
     let plan = planOf wish marks values in (
@@ -104,3 +105,9 @@ board-sends-plan wish marks values out returned after bytes meets told =
           ∙ ap (readBack (length plan)) (meets .buffer ∙ ap (λ (p : List Sent). laidOut p out) (accepted .1))
           ∙ read-back plan (drop (length (encoded plan)) out) (plan-small wish marks values),
     )
+
+pub planned-runs : PlannedRuns
+planned-runs wish marks values out returned after meets told bytes start cut last s long begun whole =
+    let sends = board-sends-plan wish marks values out returned after meets told in
+    cut-runs wish marks values start cut last (sends .0) bytes s long (subst (λ (plan : List Sent). EachBegun plan cut) (sends .1) begun)
+    (subst (λ (plan : List Sent). Whole plan last) (sends .1) whole)

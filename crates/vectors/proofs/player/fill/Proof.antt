@@ -16,6 +16,9 @@ loop-holds c = search needs
 add-send : tie.Need-add-send Inv-loop μ-loop
 add-send c = search needs
 
+short-time-requires : tie.Need-short-time-requires Inv-loop μ-loop
+short-time-requires c κs = search needs
+
 send-requires : tie.Need-send-requires Inv-loop μ-loop
 send-requires c κs = search needs
 
@@ -39,6 +42,7 @@ fill-spec =
     μ-loop
     loop-holds
     add-send
+    short-time-requires
     send-requires
     add-cell
     loop-less
