@@ -18,6 +18,7 @@ pub record Put : Type 0 where
   pub at : ℕ
   pub out : List ℕ
 
+-- This buffer, written up to this place.
 abbrev pub put : ℕ → List ℕ → Put
 put at out = record { at = at; out = out }
 
