@@ -20,7 +20,7 @@ use Rattle.interface.proofs.Theorems.Answers.{call-answers}
 use Rattle.interface.proofs.Theorems.Refusals.{call-refusals}
 use Rattle.lines.proofs.Theorems.One.{one-reading, writer-answers, text-answers}
 use Rattle.lines.proofs.Theorems.Read.{reader-answers, read-writes-back}
-use Rattle.lines.proofs.Theorems.Written.{written-reads-back}
+use Rattle.lines.proofs.Theorems.Written.{buffer-reads-back, written-reads-back}
 use Rattle.lines.specs.Writing.{Writing, onto, wanting, lineWriting}
 use Rattle.lines.specs.declared.writer.Written.{Written}
 use Rattle.planner.proofs.Theorems.Plan.{planned-runs}
@@ -98,6 +98,7 @@ demand-2 =
       dots = each-byte;
       later = later-stay;
       written = written-reads-back;
+      buffer = buffer-reads-back;
       read = read-writes-back;
       one-reading = one-reading;
     }

@@ -15,7 +15,7 @@ use Rattle.controller.specs.Theorems.{TransferKeepsSound, ResetMakesSound, Effe
 use Rattle.drawing.specs.Theorems.{DrawRefusals}
 use Rattle.dots.specs.Theorems.{EachByte, LaterStay, PictureRefusals}
 use Rattle.interface.specs.Theorems.{CallRefusals}
-use Rattle.lines.specs.Theorems.{WrittenReadsBack, ReadWritesBack, OneReading}
+use Rattle.lines.specs.Theorems.{BufferReadsBack, WrittenReadsBack, ReadWritesBack, OneReading}
 use Rattle.lines.specs.Writing.{Writing, Writes, wanting, lineWriting}
 use Rattle.lines.specs.declared.writer.Written.{Written}
 use Rattle.planner.specs.Theorems.{NotWishes, PlanRefusals, PlannedRuns}
@@ -69,6 +69,7 @@ pub record Demand2 : Type 0 where
   pub dots : EachByte
   pub later : LaterStay
   pub written : WrittenReadsBack
+  pub buffer : BufferReadsBack
   pub read : ReadWritesBack
   pub one-reading : OneReading
 
