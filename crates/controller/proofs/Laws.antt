@@ -8,3 +8,4 @@ pub mod Kept
 pub mod Taken
 pub mod Memory
 pub mod Sent
+pub mod Halves

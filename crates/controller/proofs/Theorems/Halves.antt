@@ -8,6 +8,7 @@ use Prim.Native.Nat.{ℕ, _/_, _≤_, _<_, zero-le}
 use native.Mathlib.Omega.{arith}
 use lib.Dec.{eqb, ltb, leb}
 use borrow.Author.Tests.{eqb-true, eqb-false, le-leb, ltb-false}
+use Rattle.controller.proofs.Laws.Halves.{high-of, whole-of, without}
 use Rattle.controller.proofs.Laws.Instruction.{decoded-elim}
 use Rattle.controller.proofs.Laws.Record.{sound-busy, sound-counter, sound-of, sound-shift}
 use Rattle.controller.proofs.Laws.Taken.{taken-narrow, taken-wide}
@@ -29,7 +30,7 @@ use Rattle.controller.specs.Bus.{badTransfer, decided}
 use Rattle.controller.specs.Cases.{Waits}
 use Rattle.controller.specs.Cells.{cellOfAdd, stepped}
 use Rattle.controller.specs.Execute.{addressed, carried, changed, completed, cursorAt, executed, movedOn, readOut, shifted, shortTime, statusOf, written}
-use Rattle.controller.specs.Halves.{begun, crossed, ended, firstHalf, firstTold, highHalf, lowHalf, narrow, secondHalf, wholeByte}
+use Rattle.controller.specs.Halves.{begun, crossed, ended, firstHalf, firstTold, highHalf, lowHalf, narrow, secondHalf}
 use Rattle.controller.specs.Instruction.{decoded}
 use Rattle.controller.specs.Record.{busyOver, halfSound, sound, withBusy, withHalf, withRegister}
 use Rattle.controller.specs.Rules.{Alike, HalvesMakeWhole, TwoMake, atWidth}
@@ -80,13 +81,6 @@ completed-alike mem (Write byte) wide rec =
 completed-alike mem (Status byte) wide rec = record { answer = refl; effect = refl; rec = refl }
 completed-alike mem (Read byte) wide rec = record { answer = refl; effect = refl; rec = refl }
 
--- a half's bits
-high-of : (byte : ℕ) → highHalf byte / 16 ≡ byte / 16
-high-of byte = omega arith
-
-whole-of : (byte : ℕ) → wholeByte (byte / 16) (lowHalf byte) ≡ byte
-whole-of byte = omega arith
-
 -- with no half waiting the same record at width 8 waits likewise
 pub wide-waits : (rec : Record) (mem : List ℕ) (wait : ℕ) → Waits rec mem false Empty wait → Waits (atWidth true rec) mem true Empty wait
 unfolding halfSound
@@ -98,10 +92,6 @@ wide-waits rec mem wait w =
       holds = w .holds;
       over = w .over;
     }
-
--- a record with no half is itself with its half gone
-without : (rec : Record) → rec .half ≡ Empty → withHalf Empty rec ≡ rec
-without rec none = ap (λ (half : Half). withHalf half rec) (sym none)
 
 module _ (rec : Record) (mem : List ℕ) (kind byte wait later : ℕ) (w : Waits rec mem false Empty wait) (good : badTransfer kind byte ≡ false) (is-byte : byte < 256) where
   -- halves that wait so, return this byte first, and complete this transfer, make the whole

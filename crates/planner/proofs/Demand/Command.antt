@@ -7,6 +7,7 @@ use mathlib.Core.Path.{_≡_, refl, sym, ap, subst, _∙_}
 use Prim.Native.Nat.{ℕ, _+_, _*_, _/_, _≤_, _<_, zero-le}
 use native.Mathlib.Omega.{arith}
 use lib.ListN.{getD}
+use Rattle.controller.proofs.Laws.Halves.{high-of, whole-of, without}
 use Rattle.controller.proofs.Laws.Taken.{accepted-narrow}
 use Rattle.controller.specs.Bus.{badTransfer}
 use Rattle.controller.specs.Cells.{placeOf}
@@ -38,17 +39,6 @@ step-to : (k : Scene) (Q : State → Type 0) (s : State) (asked : Sent) (plan : 
 step-to k Q s asked plan d is inv good byte over harmless rest =
     step k Q s asked plan inv good byte over (subst (Harmless k) (sym is) harmless)
     (λ next. subst (λ (x : Decision). Safe k Q (after s x) plan) (sym is) (rest (subst (λ (x : Decision). Inv k (after s x)) is next)))
-
--- a half's bits
-high-of : (byte : ℕ) → highHalf byte / 16 ≡ byte / 16
-high-of byte = omega arith
-
-whole-of : (byte : ℕ) → byte / 16 * 16 + lowHalf byte / 16 ≡ byte
-whole-of byte = omega arith
-
--- a record with no half is itself with its half gone
-without : (rec : Record) → rec .half ≡ Empty → withHalf Empty rec ≡ rec
-without rec none = ap (λ (half : Half). withHalf half rec) (sym none)
 
 -- a kind of write: the command of a byte, how its high half waits, and what the whole byte completes
 record Way : Type 0 where
