@@ -56,8 +56,8 @@ TakenUnlessRefused =
 
 -- 2. Each bus transfer answers and leaves its controller as set out in document 01: that is the promise of `transfer`, with the
 -- definitions it cites, and the rules say it once more, field by field, at width 8, and at width 4 by halves. It keeps a sound
--- record sound and its effect within the memory; the dots on the glass are the picture's definition, byte by byte. A session line,
--- once written, reads back as the same transfer, and a line that was read is written out the same.
+-- record sound and its effect within the memory; the dots on the glass are the picture's definition, byte by byte. A session
+-- line, once written, reads back as the same transfer, and a line that was read is written out the same.
 pub record Demand2 : Type 0 where
   pub instructions : InstructionRules
   pub transfers : DataRules
