@@ -27,6 +27,7 @@ use Rattle.controller.specs.declared.cells.Named.the-variants.{Cell, Out
 use Rattle.controller.specs.declared.cells.Counter.the-variants.{Display, Pattern}
 use Rattle.controller.specs.Cells.{addOfCell, addressOf, addressSet, byteUnder, cellOfAdd, onCell, placeOf, stepped, wrapped}
 use Rattle.controller.specs.declared.decision.Decision.{Decision}
+use Rattle.controller.specs.declared.decision.Effect.{Effect}
 use Rattle.controller.specs.declared.instruction.Instruction.{Instruction}
 use Rattle.controller.specs.declared.instruction.Instruction.the-variants.{Nothing, Clear, Home, SetEntry, SetControl, MoveCursor, ShiftDisplay, SetFunction, PatternAddress}
 use Rattle.controller.specs.declared.«record».Half.the-variants.{Empty}
@@ -34,12 +35,12 @@ use Rattle.controller.specs.declared.«record».Record.{Record}
 use Rattle.controller.specs.Answers.{numberOf}
 use Rattle.controller.specs.Bus.{badTransfer, decided, mustWait}
 use Rattle.controller.specs.Cases.{Waits}
-use Rattle.controller.specs.Decision.{performed, blanked, refused}
-use Rattle.controller.specs.Execute.{addressed, carried, changed, completed, cursorAt, executed, loaded, movedOn, placed, readOut, shortTime, longTime, statusOf, written}
+use Rattle.controller.specs.Decision.{performed, blanked, done, refused}
+use Rattle.controller.specs.Execute.{addressed, carried, changed, completed, cursorAt, executed, homed, loaded, movedOn, placed, readOut, shortTime, longTime, statusOf, written}
 use Rattle.controller.specs.Halves.{begun}
 use Rattle.controller.specs.Instruction.{bit, decoded}
 use Rattle.controller.specs.Record.{busyOver, waited, withShift}
-use Rattle.controller.specs.Rules.{Instructs, DoesNothing, Clears, GoesHome, SetsEntry, SetsControl, isSet, neighbour, beside, MovesCounter, ShiftsDisplay, SetsFunction, GoesTo, SetsPattern, Names, LacksCell, SetsDisplay, InstructionRules, inDisplay, WritesData, ReadsData, Addresses, ReadsStatus, Wide, DataRules, ReadNeverShifts, FunctionMovesNothing, ClearLeavesRest, AddressSetGoes, SameFunction, SameControl, SameEntry, SamePlace}
+use Rattle.controller.specs.Rules.{Instructs, DoesNothing, Homes, Clears, GoesHome, SetsEntry, SetsControl, isSet, neighbour, beside, MovesCounter, ShiftsDisplay, SetsFunction, GoesTo, SetsPattern, Names, LacksCell, SetsDisplay, InstructionRules, inDisplay, WritesData, ReadsData, Addresses, ReadsStatus, Wide, DataRules, ReadNeverShifts, FunctionMovesNothing, ClearLeavesRest, AddressSetGoes, SameFunction, SameControl, SameEntry, SamePlace}
 
 -- a byte's range says which row of the table it is
 module _ (byte : ℕ) where
@@ -134,21 +135,27 @@ unfolding blanked
 blanked-cells mem place =
     choose (ltb place 80) (λ under. front 80 0x20 (drop 80 mem) place (ltb-true place 80 under)) (λ over. back 80 0x20 mem place (ltb-false place 80 over))
 
+-- what Clear and Home leave of the record, whatever becomes of the memory
+homes : (rec : Record) (effect : Effect) → rec .half ≡ Empty → Homes rec (done longTime effect (homed (busyOver rec)))
+unfolding longTime
+homes rec effect none =
+    record {
+      comes = record { answer = refl; byte = refl; busy = refl; half = none };
+      function = record { wide = refl; n = refl; f = refl };
+      control = record { d = refl; c = refl; b = refl };
+      entry = record { id = refl; s = refl };
+      shift = refl;
+      counter = refl;
+      reg = refl;
+      fresh = refl;
+    }
+
 clears : Instructs 0x01 0x01 Clears
 unfolding executed longTime performed
 clears rec mem byte wait w over under =
     rule Clears _ rec mem byte wait w (is-clear byte over under)
     (record {
-      homes = record {
-        comes = record { answer = refl; byte = refl; busy = refl; half = w .holds };
-        function = record { wide = refl; n = refl; f = refl };
-        control = record { d = refl; c = refl; b = refl };
-        entry = record { id = refl; s = refl };
-        shift = refl;
-        counter = refl;
-        reg = refl;
-        fresh = refl;
-      };
+      homes = homes rec _ (w .holds);
       cells = λ place _. blanked-cells mem place;
     })
 
@@ -157,16 +164,7 @@ unfolding executed longTime performed
 goes-home rec mem byte wait w over under =
     rule GoesHome _ rec mem byte wait w (is-home byte over under)
     (record {
-      homes = record {
-        comes = record { answer = refl; byte = refl; busy = refl; half = w .holds };
-        function = record { wide = refl; n = refl; f = refl };
-        control = record { d = refl; c = refl; b = refl };
-        entry = record { id = refl; s = refl };
-        shift = refl;
-        counter = refl;
-        reg = refl;
-        fresh = refl;
-      };
+      homes = homes rec _ (w .holds);
       cells = λ _ _. refl;
     })
 
