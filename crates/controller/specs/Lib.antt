@@ -7,6 +7,7 @@ pub mod Execute
 pub mod Halves
 pub mod Bus
 pub mod Sent
+pub mod Promises
 pub mod Runs
 pub mod Rows
 pub mod Theorems

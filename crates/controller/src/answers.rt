@@ -1,6 +1,5 @@
 // The answers of all calls, and their numbers in the table "What each number says".
-ghost use mathlib.Core.Path.{_≡_};
-ghost use Rattle.controller.specs.Answers.{isDone, isRefusal, numberOf};
+ghost use Rattle.controller.specs.Promises.{IsDonePromise, IsRefusalPromise, NumberPromise};
 
 // A name for each row of the table "What each number says".
 pub enum Answer {
@@ -22,7 +21,7 @@ pub enum Answer {
 
 // The number of an answer in the table.
 pub fn number(answer: Answer) -> u8
-    ensures { λ r. ⌜ r ≡ numberOf answer ⌝ }
+    ensures { λ r. ⌜ NumberPromise answer r ⌝ }
 {
     match answer {
         Answer::Done => 0,
@@ -44,14 +43,14 @@ pub fn number(answer: Answer) -> u8
 
 // Whether the answer is 0.
 pub fn is_done(answer: Answer) -> bool
-    ensures { λ r. ⌜ r ≡ isDone answer ⌝ }
+    ensures { λ r. ⌜ IsDonePromise answer r ⌝ }
 {
     number(answer) == 0
 }
 
 // Whether the answer is a refusal: all but 0, 5, 7 and 8 are.
 pub fn is_refusal(answer: Answer) -> bool
-    ensures { λ r. ⌜ r ≡ isRefusal answer ⌝ }
+    ensures { λ r. ⌜ IsRefusalPromise answer r ⌝ }
 {
     let told = number(answer);
     if told == 0 {

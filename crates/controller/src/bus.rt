@@ -1,7 +1,8 @@
 // The public calls. Each answers every input: the refusals in their order, then what the rules say.
 ghost use mathlib.Core.Bool.{true};
 ghost use mathlib.Core.Path.{_≡_};
-ghost use Rattle.controller.specs.Bus.{Performs, badTransfer, decided, mustWait, noHalf, ordered, resetDecided, whole};
+ghost use Rattle.controller.specs.Bus.{decided, mustWait, noHalf, ordered, resetDecided};
+ghost use Rattle.controller.specs.Promises.{IsBadPromise, IsWholePromise, ResetPromise, TransferPromise};
 ghost use Rattle.controller.specs.Record.{Ready};
 use crate::answers::Answer;
 use crate::cells::on_cell;
@@ -20,14 +21,14 @@ use crate::record::is_sound;
 
 // Whether a lent memory, or the marks or values of a wish, are 144 bytes.
 pub fn is_whole(memory: &[u8]) -> bool
-    ensures { λ r. ⌜ r ≡ whole (now (memory .entry)) ⌝ }
+    ensures { λ r. ⌜ IsWholePromise (now (memory .entry)) r ⌝ }
 {
     memory.len() == 144
 }
 
 // A kind above 3, or a read with a byte.
 pub fn is_bad(kind: u8, byte: u8) -> bool
-    ensures { λ r. ⌜ r ≡ badTransfer kind byte ⌝ }
+    ensures { λ r. ⌜ IsBadPromise kind byte r ⌝ }
 {
     3 < kind || (2 <= kind && 0 < byte)
 }
@@ -102,7 +103,7 @@ fn decide_reset(rec: Record, memory: &[u8]) -> Decision
 // One bus transfer: its kind (0 instruction write, 1 data write, 2 status read, 3 data read), its byte (00h for a
 // read), and the microseconds since the transfer before it.
 pub fn transfer(rec: Record, memory: &mut [u8], kind: u8, byte: u8, wait: u32) -> Outcome
-    ensures { λ r. ⌜ Performs (decided rec (now (memory .entry)) kind byte wait) (now (memory .entry)) r (now (memory .exit)) ⌝ }
+    ensures { λ r. ⌜ TransferPromise rec (now (memory .entry)) kind byte wait r (now (memory .exit)) ⌝ }
 {
     let decision = decide(rec, memory, kind, byte, wait);
     let effect = decision.effect;
@@ -112,7 +113,7 @@ pub fn transfer(rec: Record, memory: &mut [u8], kind: u8, byte: u8, wait: u32) -
 
 // Power on. Any record will do, and an unsound one becomes sound.
 pub fn reset(rec: Record, memory: &mut [u8]) -> Outcome
-    ensures { λ r. ⌜ Performs (resetDecided rec (now (memory .entry))) (now (memory .entry)) r (now (memory .exit)) ⌝ }
+    ensures { λ r. ⌜ ResetPromise rec (now (memory .entry)) r (now (memory .exit)) ⌝ }
 {
     let decision = decide_reset(rec, memory);
     let effect = decision.effect;

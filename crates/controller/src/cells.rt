@@ -4,8 +4,9 @@ ghost use mathlib.Core.Bool.{true};
 ghost use mathlib.Core.Path.{_≡_};
 ghost use Prim.Native.Nat.{_<_, _≤_};
 ghost use lib.ListN.{length};
-ghost use Rattle.controller.specs.Cells.{acgOfCell, addOfCell, addressOf, addressSet, byteUnder, cellOf, cellOfAcg};
-ghost use Rattle.controller.specs.Cells.{cellOfAdd, lineLength, onCell, placeOf, stepped, wrapped};
+ghost use Rattle.controller.specs.Cells.{acgOfCell, addOfCell, addressOf, byteUnder, cellOfAcg, cellOfAdd, onCell};
+ghost use Rattle.controller.specs.Cells.{placeOf, stepped, wrapped};
+ghost use Rattle.controller.specs.Promises.{AddressSetPromise, CellOfPromise, LineLengthPromise};
 
 // A display address, as the bus carries it. It is never read as a pattern address.
 pub struct Add(pub u8);
@@ -21,7 +22,7 @@ pub enum Counter {
 
 // The counter's cell, in whichever memory.
 pub fn cell_of(counter: Counter) -> u8
-    ensures { λ r. ⌜ r ≡ cellOf counter ⌝ }
+    ensures { λ r. ⌜ CellOfPromise counter r ⌝ }
 {
     match counter {
         Counter::Display(cell) => cell,
@@ -87,7 +88,7 @@ pub fn step(up: bool, counter: Counter) -> Counter
 
 // A line's length, L.
 pub fn line_length(n: bool) -> u8
-    ensures { λ r. ⌜ r ≡ lineLength n ⌝ }
+    ensures { λ r. ⌜ LineLengthPromise n r ⌝ }
 {
     if n {
         return 40;
@@ -148,7 +149,7 @@ pub fn acg_of_cell(cell: u8) -> Acg
 
 // The instruction that sets the counter to this cell. A number past the last cell of its memory is counted on from the first.
 pub fn address_set(n: bool, counter: Counter) -> u8
-    ensures { λ r. ⌜ r ≡ addressSet n counter ⌝ }
+    ensures { λ r. ⌜ AddressSetPromise n counter r ⌝ }
 {
     match counter {
         Counter::Display(cell) => 0x80 + add_of_cell(n, cell % 80).0,

@@ -5,8 +5,8 @@ ghost use Prim.Native.Nat.{_<_};
 ghost use lib.ListN.{length};
 ghost use Rattle.controller.specs.Cells.{Within, onCell};
 ghost use Rattle.controller.specs.Execute.{addressed, carried, changed, completed, cursorAt, executed, homed, loaded};
-ghost use Rattle.controller.specs.Execute.{longTime, movedOn, placed, readOut, shifted, shortTime, statusOf, unloaded};
-ghost use Rattle.controller.specs.Execute.{written};
+ghost use Rattle.controller.specs.Execute.{movedOn, placed, readOut, shifted, statusOf, unloaded, written};
+ghost use Rattle.controller.specs.Promises.{LongTimePromise, ShortTimePromise};
 ghost use Rattle.controller.specs.Record.{Ready, withControl, withEntry, withFunction};
 use crate::answers::Answer;
 use crate::cells::Counter;
@@ -39,13 +39,13 @@ pub enum Transfer {
 
 // Microseconds at 250 kHz (document 002): Clear and Home take the long time, all else that takes time the short one.
 pub fn short_time() -> u32
-    ensures { λ r. ⌜ r ≡ shortTime ⌝ }
+    ensures { λ r. ⌜ ShortTimePromise r ⌝ }
 {
     40
 }
 
 pub fn long_time() -> u32
-    ensures { λ r. ⌜ r ≡ longTime ⌝ }
+    ensures { λ r. ⌜ LongTimePromise r ⌝ }
 {
     1_640
 }

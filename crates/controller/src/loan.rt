@@ -1,5 +1,5 @@
 // The same transfer on a record that is lent, for a caller who keeps the record in a place of its own.
-ghost use Rattle.controller.specs.Bus.{PerformsIn, decided};
+ghost use Rattle.controller.specs.Promises.{TransferInPromise};
 use crate::answers::Answer;
 use crate::bus::transfer;
 use crate::record::Record;
@@ -13,8 +13,7 @@ pub struct Told {
 // One bus transfer on a record that is lent: the new record is left in the loan.
 pub fn transfer_in(rec: &mut Record, memory: &mut [u8], kind: u8, byte: u8, wait: u32) -> Told
     ensures { λ r.
-        ⌜ PerformsIn (decided (now (rec .entry)) (now (memory .entry)) kind byte wait) (now (memory .entry)) r (now (rec .exit))
-        (now (memory .exit)) ⌝ }
+        ⌜ TransferInPromise (now (rec .entry)) (now (memory .entry)) kind byte wait r (now (rec .exit)) (now (memory .exit)) ⌝ }
 {
     let outcome = transfer(*rec, memory, kind, byte, wait);
     *rec = outcome.rec;

@@ -1,6 +1,7 @@
 // The controller's record: all that it keeps beside the memory.
 ghost use mathlib.Core.Path.{_≡_};
-ghost use Rattle.controller.specs.Record.{busyOver, halfSound, resetRecord, resetTime, sound, waited, withHalf};
+ghost use Rattle.controller.specs.Promises.{AfterResetPromise, IsSoundPromise};
+ghost use Rattle.controller.specs.Record.{busyOver, halfSound, resetTime, waited, withHalf};
 use crate::cells::Counter;
 
 // What Function Set sets, beside the width: N, two lines, and F, tall letters.
@@ -65,7 +66,7 @@ fn half_is_sound(wide: bool, busy: u32, half: Half) -> bool
 
 // Whether a record is one that a controller can have.
 pub fn is_sound(rec: Record) -> bool
-    ensures { λ r. ⌜ r ≡ sound rec ⌝ }
+    ensures { λ r. ⌜ IsSoundPromise rec r ⌝ }
 {
     let counter = rec.counter;
     let half = rec.half;
@@ -76,7 +77,7 @@ pub fn is_sound(rec: Record) -> bool
 
 // The record that reset leaves.
 pub fn after_reset() -> Record
-    ensures { λ r. ⌜ r ≡ resetRecord ⌝ }
+    ensures { λ r. ⌜ AfterResetPromise r ⌝ }
 {
     Record {
         wide: true,

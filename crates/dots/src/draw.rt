@@ -6,8 +6,9 @@ ghost use Prim.Native.Nat.{_*_, _+_, _≤_, _<_};
 ghost use lib.ListN.{length};
 ghost use Rattle.dots.specs.Font.{tableLength};
 ghost use Rattle.dots.specs.Geometry.{ShownWithin, fitsGlass, height, pictureLength, tallest};
-ghost use Rattle.dots.specs.Picture.{Drawable, Pictured, pictureByte, cellRow, covered, dotsAt, isOn, cursorSets, painted};
+ghost use Rattle.dots.specs.Picture.{Drawable, pictureByte, cellRow, covered, dotsAt, isOn, cursorSets, painted};
 ghost use Rattle.dots.specs.Picture.{patternRow, rowOf, shownRow};
+ghost use Rattle.dots.specs.Promises.{PicturePromise};
 use crate::font::table;
 use crate::font::table_row;
 use crate::geometry::Shown;
@@ -171,7 +172,7 @@ fn draw(shapes: &[u8], rec: Record, memory: &[u8], lit: bool, size: Size, out: &
 // Draws what the panel shows into the first lines x 8 x columns bytes of the output, or refuses and leaves the output as
 // it is.
 pub fn picture(rec: Record, memory: &[u8], size: Size, lit: bool, out: &mut [u8]) -> Answer
-    ensures { λ r. ⌜ Pictured rec (now (memory .entry)) size lit (now (out .entry)) r (now (out .exit)) ⌝ }
+    ensures { λ r. ⌜ PicturePromise rec (now (memory .entry)) size lit (now (out .entry)) r (now (out .exit)) ⌝ }
 {
     if !is_sound(rec) {
         return Answer::Unsound;

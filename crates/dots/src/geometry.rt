@@ -1,7 +1,8 @@
 // The size of a picture, and the display cell that each of its positions shows. Lines, rows and columns count from 0.
 ghost use mathlib.Core.Path.{_≡_};
 ghost use Prim.Native.Nat.{_≤_, _<_};
-ghost use Rattle.dots.specs.Geometry.{cellAt, cellIn, fitsGlass, height, isShown, isShownIn, pictureLength};
+ghost use Rattle.dots.specs.Geometry.{cellAt, cellIn, fitsGlass, isShownIn, pictureLength};
+ghost use Rattle.dots.specs.Promises.{IsShownPromise, RowsOfPromise};
 use controller::Function;
 
 // What a position shows: a display cell, or nothing where its line is not driven.
@@ -30,7 +31,7 @@ pub const PICTURE_ROOM: usize = 2 * TALLEST * 40;
 
 // The rows of a character: eight, whatever N and F are.
 pub fn rows_of(function: Function) -> usize
-    ensures { λ r. ⌜ r ≡ height function ⌝ }
+    ensures { λ r. ⌜ RowsOfPromise function r ⌝ }
 {
     8
 }
@@ -76,7 +77,7 @@ fn is_shown_in(driven: u8, length: u8, shift: u8, size: Size, cell: u8) -> bool
 
 // Whether a position of the glass shows this display cell.
 pub fn is_shown(n: bool, shift: u8, size: Size, cell: u8) -> bool
-    ensures { λ r. ⌜ r ≡ isShown n shift size cell ⌝ }
+    ensures { λ r. ⌜ IsShownPromise n shift size cell r ⌝ }
 {
     if n {
         return is_shown_in(2, 40, shift, size, cell);

@@ -5,4 +5,5 @@ pub mod Bitmap
 pub mod Listing
 pub mod State
 pub mod Drawing
+pub mod Promises
 pub mod Theorems

@@ -3,9 +3,10 @@ ghost use mathlib.Core.Path.{_≡_};
 ghost use Prim.Native.Nat.{_≤_, _<_};
 ghost use lib.ListN.{length};
 ghost use Rattle.dots.specs.Picture.{painted};
-ghost use Rattle.drawing.specs.Drawing.{Drawn, bitmapByte, bitmapLength, DrawnTaken, drawnByte, cellsByte, frameLength};
+ghost use Rattle.drawing.specs.Drawing.{bitmapByte, bitmapLength, DrawnTaken, drawnByte, cellsByte, frameLength};
 ghost use Rattle.drawing.specs.Drawing.{frameWidth, headByte, lengthOf, listingByte, textByte};
 ghost use Rattle.drawing.specs.Grid.{Small};
+ghost use Rattle.drawing.specs.Promises.{DrawPromise};
 use crate::bitmap::bitmap_head;
 use crate::bitmap::pixels_at;
 use crate::frame::frame_at;
@@ -211,7 +212,7 @@ pub fn draw(
     lit: bool,
     out: &mut [u8],
 ) -> Written
-    ensures { λ r. ⌜ Drawn form rec (now (memory .entry)) size lit (now (out .entry)) r (now (out .exit)) ⌝ }
+    ensures { λ r. ⌜ DrawPromise form rec (now (memory .entry)) size lit (now (out .entry)) r (now (out .exit)) ⌝ }
 {
     let mut dots = [0u8; PICTURE_ROOM];
     let answer = picture(rec, memory, size, lit, &mut dots);

@@ -5,4 +5,5 @@ pub mod LineCalls
 pub mod PictureCalls
 pub mod WishBytes
 pub mod PlanCalls
+pub mod Promises
 pub mod Theorems

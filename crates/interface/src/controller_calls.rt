@@ -2,7 +2,8 @@
 ghost use mathlib.Core.Path.{_≡_};
 ghost use lib.ListN.{length};
 ghost use Rattle.controller.specs.Bus.{decided, resetDecided};
-ghost use Rattle.interface.specs.ControllerCalls.{Left, Leaves, callOf, resetCall, transferCall};
+ghost use Rattle.interface.specs.ControllerCalls.{Left, Leaves, callOf};
+ghost use Rattle.interface.specs.Promises.{YaropeskResetPromise, YaropeskTransferPromise};
 ghost use Rattle.interface.specs.RecordBytes.{recordFrom};
 use crate::record_bytes::ReadRecord;
 use crate::record_bytes::is_record_long;
@@ -57,8 +58,8 @@ pub extern "C" fn yaropesk_transfer(
     wait: u32,
 ) -> u32
     ensures { λ r.
-        let call = transferCall (now (bytes .entry)) (now (memory .entry)) kind byte wait in
-        ⌜ Leaves call r (now (bytes .exit)) (now (memory .exit)) ⌝ }
+        ⌜ YaropeskTransferPromise (now (bytes .entry)) (now (memory .entry)) kind byte wait r (now (bytes .exit))
+        (now (memory .exit)) ⌝ }
 {
     let read = read_record(bytes);
     match read {
@@ -81,7 +82,8 @@ fn reset_from(bytes: &mut [u8], memory: &mut [u8]) -> u32
 // Power on. Any 24 bytes will do for the record.
 #[no_mangle]
 pub extern "C" fn yaropesk_reset(bytes: &mut [u8], memory: &mut [u8]) -> u32
-    ensures { λ r. ⌜ Leaves (resetCall (now (bytes .entry)) (now (memory .entry))) r (now (bytes .exit)) (now (memory .exit)) ⌝ }
+    ensures { λ r.
+        ⌜ YaropeskResetPromise (now (bytes .entry)) (now (memory .entry)) r (now (bytes .exit)) (now (memory .exit)) ⌝ }
 {
     if !is_record_long(bytes) {
         return refused(Answer::Unsound);

@@ -4,7 +4,8 @@ ghost use Prim.Native.Nat.{_≤_};
 ghost use lib.ListN.{length};
 ghost use Rattle.lines.specs.Writing.{onto};
 ghost use Rattle.interface.specs.Filling.{Fills};
-ghost use Rattle.interface.specs.LineCalls.{readCall, sixOf, stored, writeCall};
+ghost use Rattle.interface.specs.LineCalls.{sixOf, stored};
+ghost use Rattle.interface.specs.Promises.{YaropeskReadLinePromise, YaropeskWriteLinePromise};
 use crate::told::counted;
 use crate::told::refused;
 use controller::Answer;
@@ -18,7 +19,7 @@ use lines::write_line;
 // The line of a transfer, into a buffer of at least 16 bytes.
 #[no_mangle]
 pub extern "C" fn yaropesk_write_line(kind: u8, byte: u8, wait: u32, out: &mut [u8]) -> u32
-    ensures { λ r. ⌜ Fills (writeCall kind byte wait (now (out .entry))) r (now (out .exit)) ⌝ }
+    ensures { λ r. ⌜ YaropeskWriteLinePromise kind byte wait (now (out .entry)) r (now (out .exit)) ⌝ }
 {
     let written = write_line(kind, byte, wait, out);
     let answer = written.answer;
@@ -57,7 +58,7 @@ fn store_line(line: Line, out: &mut [u8]) -> u32
 // The line at the start of a text, as six bytes.
 #[no_mangle]
 pub extern "C" fn yaropesk_read_line(text: &[u8], out: &mut [u8]) -> u32
-    ensures { λ r. ⌜ Fills (readCall (now (text .entry)) (now (out .entry))) r (now (out .exit)) ⌝ }
+    ensures { λ r. ⌜ YaropeskReadLinePromise (now (text .entry)) (now (out .entry)) r (now (out .exit)) ⌝ }
 {
     let line = read_line(text);
     store_line(line, out)

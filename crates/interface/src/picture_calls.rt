@@ -1,6 +1,7 @@
 // The picture of a record of 24 bytes and a memory of 144.
 ghost use Rattle.interface.specs.Filling.{Fills};
-ghost use Rattle.interface.specs.PictureCalls.{drawingOf, pictureCall};
+ghost use Rattle.interface.specs.PictureCalls.{drawingOf};
+ghost use Rattle.interface.specs.Promises.{YaropeskPicturePromise};
 use crate::record_bytes::ReadRecord;
 use crate::record_bytes::read_record;
 use crate::told::refused;
@@ -27,8 +28,8 @@ pub extern "C" fn yaropesk_picture(
     out: &mut [u8],
 ) -> u32
     ensures { λ r.
-        let call = pictureCall (now (bytes .entry)) (now (memory .entry)) columns lines lit (now (out .entry)) in
-        ⌜ Fills call r (now (out .exit)) ⌝ }
+        ⌜ YaropeskPicturePromise (now (bytes .entry)) (now (memory .entry)) columns lines lit (now (out .entry)) r
+        (now (out .exit)) ⌝ }
 {
     let read = read_record(bytes);
     match read {

@@ -3,7 +3,8 @@ ghost use mathlib.Core.Path.{_≡_};
 ghost use Rattle.controller.specs.Answers.{numberOf};
 ghost use Rattle.planner.specs.Call.{replyTo};
 ghost use Rattle.interface.specs.Filling.{Fills};
-ghost use Rattle.interface.specs.PlanCalls.{planCall, planningOf, wishless};
+ghost use Rattle.interface.specs.PlanCalls.{planningOf, wishless};
+ghost use Rattle.interface.specs.Promises.{YaropeskPlanPromise};
 use crate::told::counted;
 use crate::told::refused;
 use crate::wish_bytes::ReadWish;
@@ -41,8 +42,8 @@ fn refuse_wish(marks: &[u8], values: &[u8]) -> u32
 #[no_mangle]
 pub extern "C" fn yaropesk_plan(wish: &[u8], marks: &[u8], values: &[u8], out: &mut [u8]) -> u32
     ensures { λ r.
-        let call = planCall (now (wish .entry)) (now (marks .entry)) (now (values .entry)) (now (out .entry)) in
-        ⌜ Fills call r (now (out .exit)) ⌝ }
+        ⌜ YaropeskPlanPromise (now (wish .entry)) (now (marks .entry)) (now (values .entry)) (now (out .entry)) r
+        (now (out .exit)) ⌝ }
 {
     let read = read_wish(wish);
     match read {

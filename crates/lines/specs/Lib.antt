@@ -4,4 +4,5 @@ pub mod Line
 pub mod Reading
 pub mod Writing
 pub mod ReportText
+pub mod Promises
 pub mod Theorems

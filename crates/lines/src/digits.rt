@@ -1,11 +1,11 @@
 // Digits and letters, each way.
 ghost use mathlib.Core.Path.{_≡_};
-ghost use Rattle.lines.specs.Digits.{digit, worthOf};
 ghost use Rattle.lines.specs.Line.{kindOf, letterOf};
+ghost use Rattle.lines.specs.Promises.{HexDigitPromise, WorthOfPromise};
 
 // The last hex digit of a number: `0` to `9`, or `A` to `F`.
 pub fn hex_digit(number: u8) -> u8
-    ensures { λ r. ⌜ r ≡ digit number ⌝ }
+    ensures { λ r. ⌜ HexDigitPromise number r ⌝ }
 {
     if number % 16 < 10 {
         return 0x30 + number % 16;
@@ -15,7 +15,7 @@ pub fn hex_digit(number: u8) -> u8
 
 // What a byte is worth as an upper-case hex digit, and 16 where it is none.
 pub fn worth_of(byte: u8) -> u8
-    ensures { λ r. ⌜ r ≡ worthOf byte ⌝ }
+    ensures { λ r. ⌜ WorthOfPromise byte r ⌝ }
 {
     if byte < 0x30 {
         return 16;

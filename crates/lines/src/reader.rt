@@ -3,8 +3,9 @@ ghost use mathlib.Core.Path.{_≡_};
 ghost use Prim.Native.Nat.{_<_, _≤_};
 ghost use lib.ListN.{drop};
 ghost use Rattle.lines.specs.Line.{waitLimit};
-ghost use Rattle.lines.specs.Reading.{badLine, byteStands, kindStands, lineFrom, lineOf};
-ghost use Rattle.lines.specs.Reading.{mayFollow, restOf, textAt, waitOf, withWait};
+ghost use Rattle.lines.specs.Promises.{ReadLinePromise};
+ghost use Rattle.lines.specs.Reading.{badLine, byteStands, kindStands, lineFrom, mayFollow, restOf, textAt, waitOf};
+ghost use Rattle.lines.specs.Reading.{withWait};
 use crate::digits::kind_of;
 use crate::digits::worth_of;
 use controller::Answer;
@@ -127,7 +128,7 @@ fn line_from(kind: u8, byte: u8, text: &[u8]) -> Line
 
 // The line at the start of the text.
 pub fn read_line(text: &[u8]) -> Line
-    ensures { λ r. ⌜ r ≡ lineOf (now (text .entry)) ⌝ }
+    ensures { λ r. ⌜ ReadLinePromise (now (text .entry)) r ⌝ }
 {
     if !kind_stands(text) {
         return bad_line();

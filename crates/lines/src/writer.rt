@@ -4,8 +4,8 @@ ghost use Prim.Native.Nat.{_≤_};
 ghost use lib.ListN.{length};
 ghost use lib.Seq.{sets};
 ghost use Rattle.lines.specs.Line.{line};
-ghost use Rattle.lines.specs.ReportText.{header, row, rowSize};
-ghost use Rattle.lines.specs.Writing.{Writes, lineWriting, wanting};
+ghost use Rattle.lines.specs.Promises.{WriteHeaderPromise, WriteLinePromise, WriteRowPromise};
+ghost use Rattle.lines.specs.ReportText.{row, rowSize};
 use crate::fields::put_byte_field;
 use crate::fields::put_kind_field;
 use crate::fields::put_number_field;
@@ -41,7 +41,7 @@ fn put_row(number: u64, answer: u8, byte: u8, busy: u32, out: &mut [u8]) -> usiz
 
 // The line of a transfer, into a buffer of at least 16 bytes.
 pub fn write_line(kind: u8, byte: u8, wait: u32, out: &mut [u8]) -> Written
-    ensures { λ r. ⌜ Writes (lineWriting kind byte wait (now (out .entry))) (now (out .entry)) r (now (out .exit)) ⌝ }
+    ensures { λ r. ⌜ WriteLinePromise kind byte wait (now (out .entry)) r (now (out .exit)) ⌝ }
 {
     if is_bad(kind, byte) {
         return Written {
@@ -64,8 +64,7 @@ pub fn write_line(kind: u8, byte: u8, wait: u32, out: &mut [u8]) -> Written
 
 // A report's row, into a buffer of at least 42 bytes.
 pub fn write_row(number: u64, answer: u8, byte: u8, busy: u32, out: &mut [u8]) -> Written
-    ensures { λ r. ⌜ Writes (wanting rowSize (row number answer byte busy) (now (out .entry)))
-        (now (out .entry)) r (now (out .exit)) ⌝ }
+    ensures { λ r. ⌜ WriteRowPromise number answer byte busy (now (out .entry)) r (now (out .exit)) ⌝ }
 {
     if out.len() < 42 {
         return Written {
@@ -82,7 +81,7 @@ pub fn write_row(number: u64, answer: u8, byte: u8, busy: u32, out: &mut [u8]) -
 
 // A report's header, into a buffer of at least 20 bytes.
 pub fn write_header(out: &mut [u8]) -> Written
-    ensures { λ r. ⌜ Writes (wanting 20 header (now (out .entry))) (now (out .entry)) r (now (out .exit)) ⌝ }
+    ensures { λ r. ⌜ WriteHeaderPromise (now (out .entry)) r (now (out .exit)) ⌝ }
 {
     if out.len() < 20 {
         return Written {

@@ -3,8 +3,9 @@ ghost use mathlib.Core.Bool.{true};
 ghost use mathlib.Core.Path.{_≡_};
 ghost use Prim.Native.Nat.{_≤_};
 ghost use lib.ListN.{length};
-ghost use Rattle.planner.specs.Call.{Plans, laidOut, replyTo};
+ghost use Rattle.planner.specs.Call.{laidOut};
 ghost use Rattle.planner.specs.Plan.{planOf};
+ghost use Rattle.planner.specs.Promises.{PlanPromise};
 ghost use Rattle.planner.specs.Wish.{isWish};
 use crate::commands::end;
 use crate::commands::open;
@@ -47,8 +48,7 @@ fn write_plan(wish: Wish, marks: &[u8], values: &[u8], out: &mut [u8]) -> usize
 // The plan for a wish: marks say which of the 144 cells to write, values what to write there. Six bytes a record.
 pub fn plan(wish: Wish, marks: &[u8], values: &[u8], out: &mut [u8]) -> Planned
     ensures { λ r.
-        ⌜ Plans (replyTo wish (now (marks .entry)) (now (values .entry)) (now (out .entry))) (now (out .entry)) r
-        (now (out .exit)) ⌝ }
+        ⌜ PlanPromise wish (now (marks .entry)) (now (values .entry)) (now (out .entry)) r (now (out .exit)) ⌝ }
 {
     if !is_whole(marks) {
         return turn_down(Answer::NotWhole);

@@ -2,4 +2,5 @@ pub mod Session
 pub mod Report
 pub mod Standing
 pub mod Walk
+pub mod Promises
 pub mod Theorems

@@ -2,8 +2,7 @@
 ghost use mathlib.Core.Path.{_≡_};
 ghost use Prim.Native.Nat.{_+_, _*_};
 ghost use lib.Dec.{ltb};
-ghost use Rattle.lines.specs.Writing.{Writes};
-ghost use Rattle.player.specs.Report.{playing};
+ghost use Rattle.player.specs.Promises.{PlayPromise};
 use crate::walk::Place;
 use crate::walk::walk;
 use controller::Answer;
@@ -24,7 +23,7 @@ fn is_short(text: usize, out: usize) -> bool
 
 // The whole report of a session, into a buffer of at least six bytes for each byte of the text and 62 more.
 pub fn play(text: &[u8], out: &mut [u8]) -> Written
-    ensures { λ r. ⌜ Writes (playing (now (text .entry)) (now (out .entry))) (now (out .entry)) r (now (out .exit)) ⌝ }
+    ensures { λ r. ⌜ PlayPromise (now (text .entry)) (now (out .entry)) r (now (out .exit)) ⌝ }
 {
     if is_short(text.len(), out.len()) {
         return Written {

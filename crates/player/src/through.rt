@@ -1,6 +1,5 @@
 // Playing a session through without a report, to see how it leaves the bench.
-ghost use mathlib.Core.Path.{_≡_};
-ghost use Rattle.player.specs.Standing.{standing};
+ghost use Rattle.player.specs.Promises.{PlayThroughPromise};
 use crate::walk::Place;
 use crate::walk::walk;
 use controller::Answer;
@@ -19,7 +18,7 @@ pub struct Standing {
 
 // A text's transfers, sent to a controller after reset with pattern cells 00h.
 pub fn play_through(text: &[u8]) -> Standing
-    ensures { λ r. ⌜ r ≡ standing (now (text .entry)) ⌝ }
+    ensures { λ r. ⌜ PlayThroughPromise (now (text .entry)) r ⌝ }
 {
     let mut memory = [0u8; 144];
     let begun = reset(after_reset(), &mut memory);
