@@ -1,6 +1,7 @@
 #!/bin/sh
 # Keeps the documents true: the files, programs, definitions and must-fail edits that README.md and docs/ name are there, and
-# every public function and every edit is named in them. Names are read from `code` and from indented commands.
+# every public function and every edit is named in them. Names are read from `code` and from indented commands. Keeps the promises
+# one, too: what a public function's contract says and what EachDetermined says of it are one predicate.
 # Prints a line for each name that is missing, then 'docs: N names, M missing', and fails where M is not 0.
 set -u
 cd "$(dirname "$0")/.." || exit 1
@@ -90,6 +91,63 @@ sed -n 's/^pub use .*::\([a-z][a-z0-9_]*\);/\1/p' crates/*/src/lib.rt > "$work/f
 all_in 'a public function without its promise in PROMISES.md' "$work/functions" "$work/promised"
 sed -n 's/^  pub \([a-z-]*\) :.*/\1/p' crates/promises/specs/Determined.antt | tr - _ > "$work/determined"
 all_in 'a public function that EachDetermined lacks' "$work/functions" "$work/determined"
+
+# --- Promises: a public function's one predicate has its name, `IsSoundPromise` for `is_sound`, in its crate's
+# specs/Promises.antt. The contract is that predicate alone, of all that is given, lent things as found, of what is returned, and
+# of each thing lent for writing as it is left. The function's field of EachDetermined is it too, of the field's variables.
+promise='function promise_of(name, words, count, made, i) {
+    count = split(name, words, "_")
+    for (i = 1; i <= count; i++) made = made toupper(substr(words[i], 1, 1)) substr(words[i], 2)
+    return made "Promise"
+}'
+awk "$promise"'/^pub use .*::[a-z][a-z0-9_]*;/ {
+    split(FILENAME, folder, "/"); split($3, part, /::|;/)
+    print folder[2] "::" part[1] "::" part[2], folder[2] "::" promise_of(part[2])
+}' crates/*/src/lib.rt > "$work/public"
+cut -d ' ' -f 2 "$work/public" > "$work/predicates_named"
+awk '/^abbrev pub [A-Za-z0-9]*Promise :/ { split(FILENAME, folder, "/"); print folder[2] "::" $3 }' \
+    crates/*/specs/Promises.antt > "$work/predicates"
+all_in 'a public function without its predicate in specs/Promises.antt' "$work/predicates_named" "$work/predicates"
+all_in 'a predicate of no public function in specs/Promises.antt' "$work/predicates" "$work/predicates_named"
+
+cut -d ' ' -f 1 "$work/public" > "$work/contracts_named"
+awk "$promise"'
+# The text is `pub fn NAME(GIVEN) -> RESULT CONTRACT` on one line.
+function is_cited(name, given, count, part, i, cited, left, result) {
+    count = split(substr(text, index(text, "(") + 1, index(text, ")") - index(text, "(") - 1), given, ",")
+    cited = promise_of(name)
+    for (i = 1; i <= count; i++) {
+        split(given[i], part, ":"); gsub(/ /, "", part[1])
+        if (part[1] != "") cited = cited " " (part[2] ~ /^ &/ ? "(now (" part[1] " .entry))" : part[1])
+        if (part[2] ~ /^ &mut /) left = left " (now (" part[1] " .exit))"
+    }
+    result = text ~ /\) -> / ? "r" : "_"
+    if (result == "r") cited = cited (text ~ /\) -> &/ ? " (now r)" : " r")
+    return match(text, /(requires|ensures) \{/) && substr(text, RSTART) == "ensures { λ " result ". ⌜ " cited left " ⌝ }"
+}
+/^pub (extern "C" )?fn / { text = ""; inside = 1 }
+/^\{/ && inside {
+    inside = 0
+    split(FILENAME, folder, "/"); sub(/\.rt/, "", folder[4])
+    name = text; sub(/\(.*/, "", name); sub(/.* /, "", name)
+    if (is_cited(name)) print folder[2] "::" folder[4] "::" name
+}
+inside { sub(/^ +/, ""); text = text (text == "" ? "" : " ") $0 }' crates/*/src/*.rt > "$work/contracts"
+all_in 'a contract that is not its predicate alone' "$work/contracts_named" "$work/contracts"
+
+awk "$promise"'
+# The text is `NAME : (VARIABLES : TYPE)... → ExactlyOne (λ (x : RESULT). CITED x)` on one line.
+function field(name, variables, cited) {
+    name = text; sub(/ :.*/, "", name); gsub(/-/, "_", name)
+    variables = text; sub(/^[a-z-]* :/, "", variables); sub(/ (→ )?ExactlyOne.*/, "", variables)
+    gsub(/\(| : [^()]*\)/, "", variables)
+    cited = text; sub(/.*ExactlyOne \(λ \(x : [^()]*\)\. /, "", cited); sub(/( x| \(x \.[0-9]\))+\)$/, "", cited)
+    if (cited == promise_of(name) variables) print name
+}
+/^  pub / { if (text != "") field(); text = $0; sub(/^  pub /, "", text); next }
+text != "" { sub(/^ +/, " "); text = text $0 }
+END { field() }' crates/promises/specs/Determined.antt > "$work/fields"
+all_in 'a field of EachDetermined that is not its predicate' "$work/functions" "$work/fields"
 
 # --- Definitions: `Module.name` is defined in specs/Module.antt, `module::name` in src/module.rt of some crate.
 grep -E '^[A-Z][A-Za-z0-9]*\.[A-Za-z0-9]+$' "$work/spans" > "$work/definitions_named"
