@@ -1,4 +1,5 @@
 pub mod Choice
+pub mod Tests
 pub mod Answers
 pub mod Cells
 pub mod Record
@@ -9,3 +10,4 @@ pub mod Taken
 pub mod Memory
 pub mod Sent
 pub mod Halves
+pub mod Rows

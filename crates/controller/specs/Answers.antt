@@ -1,8 +1,8 @@
 -- The answers of all calls and their numbers, and where a number is given (document 01, "What each number says").
 -- Assumes nothing.
-use mathlib.Core.Bool.{Bool, true, false, not, _||_}
+use mathlib.Core.Bool.{Bool, not, _||_}
 use mathlib.Core.List.{List, [], _∷_}
-use mathlib.Core.Logic.{_⊎_}
+use mathlib.Core.Logic.{_⊎_, _↔_}
 use mathlib.Core.Path.{_≡_}
 use Prim.Native.Nat.{ℕ}
 use lib.Dec.{eqb}
@@ -37,12 +37,16 @@ unfoldable pub isRefusal : Answer → Bool
 isRefusal answer =
     not (eqb (numberOf answer) 0 || (eqb (numberOf answer) 5 || (eqb (numberOf answer) 7 || eqb (numberOf answer) 8)))
 
--- A row of the table: its number, and whether it applies.
-pub record Row : Type 0 where
+-- A row of the table: its number, and what makes it apply.
+pub record Row : Type 1 where
   pub number : ℕ
-  pub applies : Bool
+  pub applies : Type 0
 
 -- This number is given by these rows: its row applies and none before it does; 0 where none applies.
 unfoldable pub Given : ℕ → List Row → Type 0
 Given n [] = n ≡ 0
-Given n (row ∷ rows) = ((row .applies ≡ true) × (row .number ≡ n)) ⊎ ((row .applies ≡ false) × Given n rows)
+Given n (row ∷ rows) = (row .applies × (row .number ≡ n)) ⊎ ((row .applies → ⊥) × Given n rows)
+
+-- An answer of this number gives each number exactly where its row applies and none before it in the order.
+abbrev pub Tells : ℕ → List Row → Type 0
+Tells answer rows = (n : ℕ) → (answer ≡ n) ↔ Given n rows

@@ -1,10 +1,15 @@
--- "Each is given exactly where its row applies, in order": the rows of transfer and reset, each with its condition
--- (document 01, "What each number says").
+-- "Each is given exactly where its row applies, in order": the rows of transfer and reset, each with its condition in the table's
+-- own words (document 01, "What each number says").
 -- Assumes nothing.
 use mathlib.Core.Bool.{Bool, true, false, cond, not, _&&_}
 use mathlib.Core.List.{List, [], _∷_}
-use Prim.Native.Nat.{ℕ, _-_}
+use mathlib.Core.Logic.{_⊎_}
+use mathlib.Core.Path.{_≡_}
+use Prim.Native.Nat.{ℕ, _-_, _≤_, _<_}
 use lib.Dec.{leb, eqb}
+use lib.ListN.{length}
+use Rattle.controller.specs.declared.cells.Counter.{Counter}
+use Rattle.controller.specs.declared.cells.Counter.the-variants.{Display, Pattern}
 use Rattle.controller.specs.declared.cells.Named.{Named}
 use Rattle.controller.specs.declared.cells.Named.the-variants.{Cell, Outside}
 use Rattle.controller.specs.declared.execute.Transfer.{Transfer}
@@ -13,10 +18,43 @@ use Rattle.controller.specs.declared.«record».Half.{Half}
 use Rattle.controller.specs.declared.«record».Half.the-variants.{Empty, InstructionWrite, DataWrite, StatusRead, DataRead}
 use Rattle.controller.specs.declared.«record».Record.{Record}
 use Rattle.controller.specs.Answers.{Row}
-use Rattle.controller.specs.Bus.{whole, badTransfer, noHalf, mustWait}
-use Rattle.controller.specs.Cells.{onCell, cellOfAdd}
+use Rattle.controller.specs.Cells.{cellOfAdd}
 use Rattle.controller.specs.Halves.{begun, wholeByte}
-use Rattle.controller.specs.Record.{sound, waited}
+use Rattle.controller.specs.Record.{waited}
+
+-- The counter is past the last cell of its memory: 80 display cells, 64 pattern cells.
+abbrev pub OffCells : Counter → Type 0
+OffCells (Display cell) = 80 ≤ cell
+OffCells (Pattern cell) = 64 ≤ cell
+
+-- A half that may not wait: any at width 8; any but a status read's with busy above 0; a write's of more than four bits.
+abbrev pub HalfBreaks : Bool → ℕ → Half → Type 0
+HalfBreaks wide busy Empty = ⊥
+HalfBreaks wide busy (InstructionWrite high) = (wide ≡ true) ⊎ ((16 ≤ high) ⊎ (0 < busy))
+HalfBreaks wide busy (DataWrite high) = (wide ≡ true) ⊎ ((16 ≤ high) ⊎ (0 < busy))
+HalfBreaks wide busy (StatusRead taken) = wide ≡ true
+HalfBreaks wide busy (DataRead taken) = (wide ≡ true) ⊎ (0 < busy)
+
+-- Row 1: a shift of 80 or more, a counter on no cell, a busy time above 10,000, or a half that may not wait.
+abbrev pub Breaks : Record → Type 0
+Breaks rec =
+    (80 ≤ rec .shift) ⊎ (OffCells (rec .counter) ⊎ ((10000 < rec .busy) ⊎ HalfBreaks (rec .wide) (rec .busy) (rec .half)))
+
+-- Row 2: not 144 long.
+abbrev pub NotLong : List ℕ → Type 0
+NotLong bytes = length bytes ≡ 144 → ⊥
+
+-- Row 3: a kind above 3, or a read, which is a kind 2 or 3, with a byte.
+abbrev pub NoTransfer : ℕ → ℕ → Type 0
+NoTransfer kind byte = (3 < kind) ⊎ ((2 ≤ kind) × (0 < byte))
+
+-- Row 4: no half waits, more busy is left than was waited, and it is no status read.
+abbrev pub TooEarly : ℕ → ℕ → Record → Type 0
+TooEarly kind wait rec = (rec .half ≡ Empty) × ((wait < rec .busy) × (kind ≡ 2 → ⊥))
+
+-- Row 5: a first half, at width 4.
+abbrev pub IsFirst : Record → Type 0
+IsFirst rec = (rec .wide ≡ false) × (rec .half ≡ Empty)
 
 -- The half that waits, completed by this byte, passes this test; where none waits none passes.
 unfoldable pub secondIs : (Transfer → Bool) → ℕ → Half → Bool
@@ -29,10 +67,6 @@ secondIs test byte (DataRead taken) = test (Read taken)
 -- The transfer that is complete now, if one is, passes this test: at width 8 its own, at width 4 the one that waited.
 unfoldable pub completeIs : (Record → Transfer → Bool) → ℕ → ℕ → Record → Bool
 completeIs test kind byte rec = cond (rec .wide) (test rec (begun kind byte rec)) (secondIs (test rec) byte (rec .half))
-
--- Row 5: a first half at width 4.
-unfoldable pub isFirst : Record → Bool
-isFirst rec = not (rec .wide) && noHalf (rec .half)
 
 -- The address names no cell.
 unfoldable pub isOutside : Named → Bool
@@ -68,17 +102,17 @@ isCrossed kind rec = not (rec .wide) && otherKind kind (rec .half)
 -- The rows of transfer in their order; 5, which is no refusal, stands after the busy and counter rows.
 unfoldable pub transferRows : Record → List ℕ → ℕ → ℕ → ℕ → List Row
 transferRows rec mem kind byte wait =
-    record { number = 1; applies = not (sound rec) }
-    ∷ record { number = 2; applies = not (whole mem) }
-    ∷ record { number = 3; applies = badTransfer kind byte }
-    ∷ record { number = 4; applies = mustWait kind (waited wait rec) }
-    ∷ record { number = 9; applies = not (onCell (rec .counter)) }
-    ∷ record { number = 5; applies = isFirst (waited wait rec) }
-    ∷ record { number = 6; applies = completeIs lacksCell kind byte (waited wait rec) }
-    ∷ record { number = 7; applies = completeIs readsStale kind byte (waited wait rec) }
-    ∷ record { number = 8; applies = isCrossed kind (waited wait rec) }
+    record { number = 1; applies = Breaks rec }
+    ∷ record { number = 2; applies = NotLong mem }
+    ∷ record { number = 3; applies = NoTransfer kind byte }
+    ∷ record { number = 4; applies = TooEarly kind wait rec }
+    ∷ record { number = 9; applies = OffCells (rec .counter) }
+    ∷ record { number = 5; applies = IsFirst rec }
+    ∷ record { number = 6; applies = completeIs lacksCell kind byte (waited wait rec) ≡ true }
+    ∷ record { number = 7; applies = completeIs readsStale kind byte (waited wait rec) ≡ true }
+    ∷ record { number = 8; applies = isCrossed kind (waited wait rec) ≡ true }
     ∷ []
 
 -- The rows of reset.
 unfoldable pub resetRows : List ℕ → List Row
-resetRows mem = record { number = 2; applies = not (whole mem) } ∷ []
+resetRows mem = record { number = 2; applies = NotLong mem } ∷ []

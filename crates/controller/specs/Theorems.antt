@@ -2,7 +2,6 @@
 -- Assumes nothing.
 use mathlib.Core.Bool.{Bool, true, false, cond}
 use mathlib.Core.List.{List}
-use mathlib.Core.Logic.{_↔_}
 use mathlib.Core.Path.{_≡_}
 use Prim.Native.Nat.{ℕ, _+_, _-_, _<_}
 use lib.Dec.{eqb}
@@ -17,7 +16,7 @@ use Rattle.controller.specs.declared.«record».Half.the-variants.{Empty
 use Rattle.controller.specs.declared.«record».Record.{Record}
 use Rattle.controller.specs.Bus.{whole, decided, resetDecided, Performs, PerformsIn}
 use Rattle.controller.specs.Cells.{wrapped, lineLength, cellOfAdd, addOfCell}
-use Rattle.controller.specs.Answers.{numberOf, isRefusal, Given}
+use Rattle.controller.specs.Answers.{numberOf, isRefusal, Tells}
 use Rattle.controller.specs.Decision.{refused, Fits}
 use Rattle.controller.specs.Execute.{shortTime, longTime}
 use Rattle.controller.specs.Record.{sound, waited, withHalf}
@@ -67,6 +66,13 @@ LeavesAsSaid wait rec d = isRefusal (d .answer) ≡ true → d ≡ refused (d .a
 abbrev pub TransferRefusals : Type 0
 TransferRefusals = (rec : Record) (mem : List ℕ) (kind byte wait : ℕ) → LeavesAsSaid wait rec (decided rec mem kind byte wait)
 
+-- A refused loan call tells byte 00h, leaves in the loan what its row says of the record, and the memory as found.
+abbrev pub LoanRefusals : Type 0
+LoanRefusals =
+    (rec : Record) (mem : List ℕ) (kind byte wait : ℕ) (told : Told) (lent : Record) (after : List ℕ)
+    → PerformsIn (decided rec mem kind byte wait) mem told lent after → isRefusal (told .answer) ≡ true
+    → (told .byte ≡ 0x00) × (lent ≡ left (told .answer) wait rec) × (after ≡ mem)
+
 -- A refused reset returns the record it was given and leaves the memory as found.
 abbrev pub ResetRefusals : Type 0
 ResetRefusals =
@@ -75,12 +81,19 @@ ResetRefusals =
 -- Transfer gives each number exactly where its row applies and none before it in the order.
 abbrev pub TransferAnswers : Type 0
 TransferAnswers =
-    (rec : Record) (mem : List ℕ) (kind byte wait n : ℕ)
-    → (numberOf (decided rec mem kind byte wait .answer) ≡ n) ↔ Given n (transferRows rec mem kind byte wait)
+    (rec : Record) (mem : List ℕ) (kind byte wait : ℕ)
+    → Tells (numberOf (decided rec mem kind byte wait .answer)) (transferRows rec mem kind byte wait)
+
+-- So does the loan call, by the same rows.
+abbrev pub LoanAnswers : Type 0
+LoanAnswers =
+    (rec : Record) (mem : List ℕ) (kind byte wait : ℕ) (told : Told) (lent : Record) (after : List ℕ)
+    → PerformsIn (decided rec mem kind byte wait) mem told lent after
+    → Tells (numberOf (told .answer)) (transferRows rec mem kind byte wait)
 
 -- Reset gives each number exactly where its row applies.
 abbrev pub ResetAnswers : Type 0
-ResetAnswers = (rec : Record) (mem : List ℕ) (n : ℕ) → (numberOf (resetDecided rec mem .answer) ≡ n) ↔ Given n (resetRows mem)
+ResetAnswers = (rec : Record) (mem : List ℕ) → Tells (numberOf (resetDecided rec mem .answer)) (resetRows mem)
 
 -- No second answer fits a transfer: two outcomes that both meet the promise are one, and so are the memories.
 abbrev pub OneTransfer : Type 0

@@ -1,8 +1,7 @@
 -- The theorems of specs/Theorems.antt, but for the two of the table, which stand in Table.antt.
 -- Assumes nothing.
-use mathlib.Core.Bool.{Bool, true, false, cond}
+use mathlib.Core.Bool.{Bool, true, false, cond, not}
 use mathlib.Core.List.{List}
-use mathlib.Core.Logic.{_↔_}
 use mathlib.Core.Path.{_≡_, refl, sym, ap, fun-ext, _∙_}
 use Prim.Native.Nat.{ℕ, _+_, _-_, _*_, _/_, _%_, _≤_, _<_}
 use native.Mathlib.Nat.{add-mul, add-mul-mod-self-right, add-zero, div-add-mod', mod-add-mod, mod-eq-of-lt, mod-lt, one-mul}
@@ -13,17 +12,19 @@ use lib.ListN.{length, getD}
 use Rattle.controller.specs.declared.«record».Record.{Record}
 use Rattle.controller.specs.Bus.{whole}
 use Rattle.controller.specs.Cells.{lineLength}
-use Rattle.controller.specs.Answers.{isRefusal, numberOf, Given}
+use Rattle.controller.specs.Answers.{isRefusal, numberOf, Tells}
 use Rattle.controller.specs.Record.{sound, withFunction}
-use Rattle.controller.proofs.Laws.Answers.{first, given}
+use Rattle.controller.proofs.Laws.Answers.{none-applies, row-applies, tells-as}
+use Rattle.controller.proofs.Laws.Rows.{sound-tests, whole-tests}
+use Rattle.controller.proofs.Laws.Tests.{Fails, fails-and, fails-le, tests-fails, tests-lt}
 use Rattle.controller.proofs.Laws.Choice.{and-left, and-right}
 use Rattle.dots.specs.declared.geometry.Shown.{Shown}
 use Rattle.dots.specs.declared.geometry.Shown.the-variants.{Cell, Undriven}
 use Rattle.dots.specs.declared.geometry.Size.{Size}
 use Rattle.dots.specs.Font.{font}
-use Rattle.dots.specs.Geometry.{cellIn, drivenLines, height, isShownIn, pictureLength}
+use Rattle.dots.specs.Geometry.{cellIn, drivenLines, fitsGlass, height, isShownIn, pictureLength}
 use Rattle.dots.specs.Picture.{answerFor, answered, pictureByte, cellRow, covered, dotsAt, cursorSets, output, outputLeft, painted, rowOf, shownRow}
-use Rattle.dots.specs.Theorems.{CursorShows, Draws, EachByte, FAltersNothing, FiveDots, LaterStay, OffDark, OnGlass, OnePicture, OnePosition, PictureAnswers, PictureRefusals, SecondLineDark, rowsFor}
+use Rattle.dots.specs.Theorems.{CursorShows, Draws, EachByte, FAltersNothing, FiveDots, LaterStay, OffDark, OnGlass, OnePicture, OnePosition, PictureAnswers, PictureRefusals, SecondLineDark, OffGlass, rowsFor}
 use Rattle.dots.proofs.Answers.{glass-columns, passed}
 use Rattle.dots.proofs.Logic.{and-false, either, of-either, or-true}
 use Rattle.dots.proofs.Painting.{painted-at, painted-length, painted-past}
@@ -195,13 +196,28 @@ unfolding answerFor output sound height
 f-alters-nothing rec f mem size lit out =
     (refl, ap (λ (g : ℕ → ℕ). outputLeft (answered rec mem size (length out)) g (pictureLength (rec .function) size) out) (fun-ext (byte-without-f rec f mem lit size)))
 
+glass-fails : (size : Size) → Fails (fitsGlass size) (OffGlass size)
+unfolding fitsGlass
+glass-fails size =
+    fails-and _ _ (fails-le 1 (size .columns))
+    (fails-and _ _ (fails-le (size .columns) 40) (fails-and _ _ (fails-le 1 (size .lines)) (fails-le (size .lines) 2)))
+
 -- The number of such a call's answer is that of the first row that applies.
-pub answers-given : (rec : Record) (mem : List ℕ) (size : Size) (bytes room n : ℕ)
-    → (numberOf (answerFor rec mem size bytes room) ≡ n) ↔ Given n (rowsFor rec mem size bytes room)
-unfolding answerFor first rowsFor
-answers-given rec mem size bytes room = given _ (rowsFor rec mem size bytes room) (simp (of-either numberOf))
+pub answers-given : (rec : Record) (mem : List ℕ) (size : Size) (bytes room : ℕ)
+    → Tells (numberOf (answerFor rec mem size bytes room)) (rowsFor rec mem size bytes room)
+unfolding answerFor rowsFor
+answers-given rec mem size bytes room =
+    let test : numberOf (answerFor rec mem size bytes room)
+    ≡ cond (not (sound rec)) 1 (cond (not (whole mem)) 2 (cond (not (fitsGlass size)) 10 (cond (ltb room bytes) 11 0))) = simp (of-either numberOf) in
+    tells-as _ _ _ test
+    (row-applies _ _ _ _ (sound-tests rec)
+    (λ _. row-applies _ _ _ _ (whole-tests mem)
+    (λ _. row-applies _ _ _ _ (tests-fails (fitsGlass size) (glass-fails size))
+    (λ _. row-applies _ _ _ _ (tests-lt room bytes)
+    (λ _. none-applies)))))
 
 pub picture-answers : PictureAnswers
+unfolding height
 picture-answers rec mem size room = answers-given rec mem size _ room
 
 pub picture-refusals : PictureRefusals

@@ -1,20 +1,19 @@
 -- What is proved of the definitions, in the order of document 01, "The dots"; then the rules of the answers. Each theorem is
 -- a type here, and its proof stands in proofs/Theorems.antt or, of the table, in proofs/Table.antt.
 -- Assumes nothing.
-use mathlib.Core.Bool.{Bool, true, false, not, _&&_}
+use mathlib.Core.Bool.{Bool, true, false, _&&_}
 use mathlib.Core.List.{List, [], _∷_}
-use mathlib.Core.Logic.{_↔_}
+use mathlib.Core.Logic.{_⊎_, _↔_}
 use mathlib.Core.Path.{_≡_}
 use Prim.Native.Nat.{ℕ, _+_, _*_, _%_, _≤_, _<_}
-use lib.Dec.{ltb}
 use lib.ListN.{length, getD}
 use Rattle.controller.specs.declared.cells.Counter.the-variants.{Display}
 use Rattle.controller.specs.declared.answers.Answer.{Answer}
 use Rattle.controller.specs.declared.answers.Answer.the-variants.{Done}
 use Rattle.controller.specs.declared.«record».Record.{Record}
-use Rattle.controller.specs.Bus.{whole}
-use Rattle.controller.specs.Answers.{isRefusal, numberOf, Row, Given}
-use Rattle.controller.specs.Record.{sound, withFunction}
+use Rattle.controller.specs.Answers.{isRefusal, numberOf, Row, Tells}
+use Rattle.controller.specs.Record.{withFunction}
+use Rattle.controller.specs.Rows.{Breaks, NotLong}
 use Rattle.dots.specs.declared.geometry.Shown.the-variants.{Cell}
 use Rattle.dots.specs.declared.geometry.Size.{Size}
 use Rattle.dots.specs.Font.{font, shapeRows, tableLength, tableRow}
@@ -131,24 +130,28 @@ OffDark =
     (shapes : List ℕ) (rec : Record) (mem : List ℕ) (lit : Bool) (line row column : ℕ)
     → rec .control .d ≡ false → dotsAt shapes rec mem lit line row column ≡ 0
 
+-- Row 10: columns outside 1 to 40, or lines outside 1 and 2.
+abbrev pub OffGlass : Size → Type 0
+OffGlass size = (size .columns < 1) ⊎ ((40 < size .columns) ⊎ ((size .lines < 1) ⊎ (2 < size .lines)))
+
 -- The rows of a call that draws so many bytes, in their order.
 unfoldable pub rowsFor : Record → List ℕ → Size → ℕ → ℕ → List Row
 rowsFor rec mem size bytes room =
-    record { number = 1; applies = not (sound rec) }
-    ∷ record { number = 2; applies = not (whole mem) }
-    ∷ record { number = 10; applies = not (fitsGlass size) }
-    ∷ record { number = 11; applies = ltb room bytes }
+    record { number = 1; applies = Breaks rec }
+    ∷ record { number = 2; applies = NotLong mem }
+    ∷ record { number = 10; applies = OffGlass size }
+    ∷ record { number = 11; applies = room < bytes }
     ∷ []
 
--- The rows of picture.
+-- The rows of picture, which draws lines x 8 x columns bytes.
 abbrev pub pictureRows : Record → List ℕ → Size → ℕ → List Row
-pictureRows rec mem size room = rowsFor rec mem size (pictureLength (rec .function) size) room
+pictureRows rec mem size room = rowsFor rec mem size (size .lines * 8 * size .columns) room
 
 -- Each number is given exactly where its row applies and none before it in the order.
 abbrev pub PictureAnswers : Type 0
 PictureAnswers =
-    (rec : Record) (mem : List ℕ) (size : Size) (room n : ℕ)
-    → (numberOf (answered rec mem size room) ≡ n) ↔ Given n (pictureRows rec mem size room)
+    (rec : Record) (mem : List ℕ) (size : Size) (room : ℕ)
+    → Tells (numberOf (answered rec mem size room)) (pictureRows rec mem size room)
 
 -- A refusal leaves the output as found.
 abbrev pub PictureRefusals : Type 0

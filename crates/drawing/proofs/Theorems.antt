@@ -8,14 +8,15 @@ use native.Mathlib.Omega.{arith}
 use borrow.Author.Tests.{ne-eqb}
 use lib.ListN.{length, replicate}
 use Rattle.controller.specs.Answers.{isRefusal}
-use Rattle.dots.specs.Geometry.{pictureRoom}
+use Rattle.dots.specs.Geometry.{height, pictureRoom}
 use Rattle.dots.proofs.Answers.{passed}
 use Rattle.dots.proofs.Places.{column-of-place, row-of-place}
 use Rattle.dots.proofs.Theorems.{answers-given, each-byte}
 use Rattle.lines.specs.declared.writer.Written.{Written}
 use Rattle.drawing.specs.declared.grid.Grid.{Grid}
-use Rattle.drawing.specs.Grid.{byteOf, isBetween, isLit}
-use Rattle.drawing.specs.Drawing.{answering, drawnLength, gridFor}
+use Rattle.drawing.specs.declared.drawing.Form.the-variants.{Text, Bitmap, Cells}
+use Rattle.drawing.specs.Grid.{byteOf, isBetween, isLit, lastX, lastY}
+use Rattle.drawing.specs.Drawing.{answering, bitmapLength, drawnLength, frameLength, frameWidth, gridFor}
 use Rattle.drawing.specs.Theorems.{DotsInPlace, DrawAnswers, DrawFits, DrawRefusals, OneDrawing}
 
 -- a place in a character is between none
@@ -50,7 +51,10 @@ dots-in-place rec mem size lit line row column dot done l r k low high =
     )
 
 pub draw-answers : DrawAnswers
-draw-answers form rec mem size room = answers-given rec mem size _ room
+unfolding frameLength frameWidth bitmapLength lastX lastY height
+draw-answers Text rec mem size room = answers-given rec mem size _ room
+draw-answers Bitmap rec mem size room = answers-given rec mem size _ room
+draw-answers Cells rec mem size room = answers-given rec mem size _ room
 
 pub draw-refusals : DrawRefusals
 draw-refusals form rec mem size lit before returned after drawn refused =

@@ -2,13 +2,12 @@
 -- Assumes nothing.
 use mathlib.Core.Bool.{Bool, true}
 use mathlib.Core.List.{List}
-use mathlib.Core.Logic.{_↔_}
 use mathlib.Core.Path.{_≡_}
 use Prim.Native.Nat.{ℕ, _+_, _*_, _≤_, _<_}
 use lib.ListN.{length}
 use Rattle.controller.specs.declared.answers.Answer.the-variants.{Done}
 use Rattle.controller.specs.declared.«record».Record.{Record}
-use Rattle.controller.specs.Answers.{isRefusal, numberOf, Row, Given}
+use Rattle.controller.specs.Answers.{isRefusal, numberOf, Row, Tells}
 use Rattle.dots.specs.declared.geometry.Size.{Size}
 use Rattle.dots.specs.Font.{font}
 use Rattle.dots.specs.Geometry.{height, pictureRoom}
@@ -16,8 +15,9 @@ use Rattle.dots.specs.Picture.{answered, dotsAt}
 use Rattle.dots.specs.Theorems.{rowsFor}
 use Rattle.lines.specs.declared.writer.Written.{Written}
 use Rattle.drawing.specs.declared.drawing.Form.{Form}
+use Rattle.drawing.specs.declared.drawing.Form.the-variants.{Text, Bitmap, Cells}
 use Rattle.drawing.specs.Grid.{dotOf, isLit}
-use Rattle.drawing.specs.Drawing.{Drawn, answering, dotsOf, drawnLength, gridFor}
+use Rattle.drawing.specs.Drawing.{Drawn, answering, dotsOf, gridFor}
 
 -- Five columns of the grid for each column of the glass, and a row for each row of dots: the grid is lit where the picture's dot
 -- is, the dots counted from the left from 1.
@@ -29,15 +29,22 @@ DotsInPlace =
     → isLit (dotsOf rec mem size lit) (gridFor rec size) (column * 6 + dot) (line * (height (rec .function) + 1) + (row + 1))
     ≡ dotOf (dotsAt font rec mem lit line row column) dot
 
+-- The bytes of a drawing, each character six dots wide and nine high with the gap beside it, in a frame: lines of text with
+-- their ends, and the state's 74; a head of 13 and pixels eight rows high; or a listing of 794.
+abbrev pub bytesFor : Form → Size → ℕ
+bytesFor Text size = (size .columns * 6 + 2) * (size .lines * 9 + 1) + 74
+bytesFor Bitmap size = 13 + (size .columns * 6 + 1) * ((size .lines * 9 + 1) * 8)
+bytesFor Cells size = 794
+
 -- The rows of draw.
 abbrev pub drawRows : Form → Record → List ℕ → Size → ℕ → List Row
-drawRows form rec mem size room = rowsFor rec mem size (drawnLength form rec size) room
+drawRows form rec mem size room = rowsFor rec mem size (bytesFor form size) room
 
 -- Each number is given exactly where its row applies and none before it in the order.
 abbrev pub DrawAnswers : Type 0
 DrawAnswers =
-    (form : Form) (rec : Record) (mem : List ℕ) (size : Size) (room n : ℕ)
-    → (numberOf (answering form rec mem size room) ≡ n) ↔ Given n (drawRows form rec mem size room)
+    (form : Form) (rec : Record) (mem : List ℕ) (size : Size) (room : ℕ)
+    → Tells (numberOf (answering form rec mem size room)) (drawRows form rec mem size room)
 
 -- A refusal tells length 0 and leaves the output as found.
 abbrev pub DrawRefusals : Type 0

@@ -1,35 +1,31 @@
 -- What is proved of the bytes of a record and of a wish, and of the calls: each theorem is a type here, and its proof stands in
 -- proofs/Theorems.
 -- Assumes nothing.
-use mathlib.Core.Bool.{Bool, true, cond, not, _&&_, _||_}
+use mathlib.Core.Bool.{true, cond, _||_}
 use mathlib.Core.List.{List, [], _∷_}
-use mathlib.Core.Logic.{_⊎_, _↔_}
 use mathlib.Core.Path.{_≡_}
-use Prim.Native.Nat.{ℕ, _%_}
-use lib.Dec.{eqb, ltb}
+use Prim.Native.Nat.{ℕ, _%_, _<_}
+use lib.Dec.{eqb}
 use lib.ListN.{length}
 use Rattle.controller.specs.declared.answers.Answer.{Answer}
 use Rattle.controller.specs.declared.«record».Record.{Record}
-use Rattle.controller.specs.Bus.{whole}
-use Rattle.controller.specs.Answers.{isRefusal, numberOf, Row, Given}
+use Rattle.controller.specs.Answers.{isRefusal, numberOf, Row, Tells}
 use Rattle.controller.specs.Record.{sound}
-use Rattle.controller.specs.Rows.{resetRows, transferRows}
+use Rattle.controller.specs.Rows.{Breaks, resetRows, transferRows}
 use Rattle.controller.specs.Theorems.{left}
 use Rattle.dots.specs.Theorems.{pictureRows}
 use Rattle.lines.specs.Theorems.{Starts, writerRows}
 use Rattle.planner.specs.declared.wish.Wish.{Wish}
-use Rattle.planner.specs.Call.{wanted}
-use Rattle.planner.specs.Wish.{isWish}
+use Rattle.planner.specs.Theorems.{NotWished, planRows}
 use Rattle.interface.specs.declared.record_bytes.ReadRecord.{ReadRecord}
 use Rattle.interface.specs.declared.record_bytes.ReadRecord.the-variants.{Is, Broken}
-use Rattle.interface.specs.declared.wish_bytes.ReadWish.{ReadWish}
 use Rattle.interface.specs.declared.wish_bytes.ReadWish.the-variants as ReadWish
 use Rattle.interface.specs.ControllerCalls.{Call, refusal, resetCall, transferCall}
 use Rattle.interface.specs.Filling.{Filling, declined}
 use Rattle.interface.specs.LineCalls.{readCall, writeCall}
 use Rattle.interface.specs.PictureCalls.{pictureCall, sizeOf}
 use Rattle.interface.specs.PlanCalls.{planCall}
-use Rattle.interface.specs.RecordBytes.{recordBytes, isRecordLong, recordIn}
+use Rattle.interface.specs.RecordBytes.{recordBytes, recordIn}
 use Rattle.interface.specs.WishBytes.{wishBytes, wishIn}
 
 -- The bytes of a sound record say that record.
@@ -84,49 +80,39 @@ pub record CallRefusals : Type 0 where
   pub write-line : (kind byte wait : ℕ) (out : List ℕ) → KeepsBuffer (writeCall kind byte wait out) out
   pub read-line : (text out : List ℕ) → KeepsBuffer (readCall text out) out
 
--- What is returned tells each number exactly where its row applies and none before it in the order.
-abbrev pub Tells : ℕ → List Row → Type 0
-Tells returned rows = (n : ℕ) → (answerIn returned ≡ n) ↔ Given n rows
+-- These are the 24 bytes of this record, which is sound.
+pub record AreOf (bytes : List ℕ) (rec : Record) : Type 0 where
+  pub own : bytes ≡ recordBytes rec
+  pub sound : Breaks rec → ⊥
 
--- The rows of a call over a record's bytes: 1 where they say no record, else the rows of the record that they say.
-unfoldable pub recordRows : ReadRecord → (Record → List Row) → List Row
-recordRows Broken rows = record { number = 1; applies = true } ∷ []
-recordRows (Is rec) rows = rows rec
+-- A call over a record's bytes: 1 where they are those of no sound record, else what the rows of their record give.
+pub record OverRecord (bytes : List ℕ) (returned : ℕ) (rows : Record → List Row) : Type 0 where
+  pub unsound : ((rec : Record) → AreOf bytes rec → ⊥) → answerIn returned ≡ 1
+  pub of : (rec : Record) → AreOf bytes rec → Tells (answerIn returned) (rows rec)
 
 -- The rows of `yaropesk_reset`: 1 where the record's bytes are not 24, then 2.
 unfoldable pub resetCallRows : List ℕ → List ℕ → List Row
-resetCallRows bytes mem = record { number = 1; applies = not (isRecordLong bytes) } ∷ resetRows mem
+resetCallRows bytes mem = record { number = 1; applies = length bytes ≡ 24 → ⊥ } ∷ resetRows mem
 
--- Not a wish: bytes that say none, or a wish that is none with these marks.
-unfoldable pub notWish : ReadWish → List ℕ → Bool
-notWish ReadWish.Broken marks = true
-notWish (ReadWish.Is wish) marks = not (isWish wish marks)
+-- Row 13 of `yaropesk_plan`: the 16 bytes of no wish, or of one that is none with these marks.
+abbrev pub NoneWished : List ℕ → List ℕ → Type 0
+NoneWished bytes marks = (wish : Wish) → bytes ≡ wishBytes wish → NotWished wish marks
 
--- The rows of `yaropesk_plan`: 2, 13, 11.
-unfoldable pub planCallRows : ReadWish → List ℕ → List ℕ → List ℕ → List Row
-planCallRows read marks values out =
-    record { number = 2; applies = not (whole marks && whole values) }
-    ∷ record { number = 13; applies = notWish read marks }
-    ∷ record { number = 11; applies = ltb (length out) wanted }
-    ∷ []
-
--- `yaropesk_read_line` tells 12 exactly where no line stands at the start of the text, and else 11 where the output is below six
--- bytes.
-abbrev pub ReadTells : ℕ → List ℕ → List ℕ → Type 0
-ReadTells returned text out =
-    ((Starts text → ⊥) × (answerIn returned ≡ 12))
-    ⊎ (Starts text × Tells returned (record { number = 11; applies = ltb (length out) 6 } ∷ []))
+-- The rows of `yaropesk_read_line`: 12 where no line stands at the start of the text, then 11, six bytes being wanted.
+unfoldable pub readRows : List ℕ → List ℕ → List Row
+readRows text out =
+    record { number = 12; applies = Starts text → ⊥ } ∷ record { number = 11; applies = length out < 6 } ∷ []
 
 -- What each call answers.
 pub record CallAnswers : Type 0 where
-  pub reset : (bytes mem : List ℕ) → Tells (resetCall bytes mem .returned) (resetCallRows bytes mem)
+  pub reset : (bytes mem : List ℕ) → Tells (answerIn (resetCall bytes mem .returned)) (resetCallRows bytes mem)
   pub transfer : (bytes mem : List ℕ) (kind byte wait : ℕ)
-      → Tells (transferCall bytes mem kind byte wait .returned)
-      (recordRows (recordIn bytes) (λ rec. transferRows rec mem kind byte wait))
+      → OverRecord bytes (transferCall bytes mem kind byte wait .returned) (λ rec. transferRows rec mem kind byte wait)
   pub picture : (bytes mem : List ℕ) (columns lines lit : ℕ) (out : List ℕ)
-      → Tells (pictureCall bytes mem columns lines lit out .returned)
-      (recordRows (recordIn bytes) (λ rec. pictureRows rec mem (sizeOf columns lines) (length out)))
+      → OverRecord bytes (pictureCall bytes mem columns lines lit out .returned)
+      (λ rec. pictureRows rec mem (sizeOf columns lines) (length out))
   pub plan : (wish marks values out : List ℕ)
-      → Tells (planCall wish marks values out .returned) (planCallRows (wishIn wish) marks values out)
-  pub write-line : (kind byte wait : ℕ) (out : List ℕ) → Tells (writeCall kind byte wait out .returned) (writerRows kind byte out)
-  pub read-line : (text out : List ℕ) → ReadTells (readCall text out .returned) text out
+      → Tells (answerIn (planCall wish marks values out .returned)) (planRows (NoneWished wish marks) marks values out)
+  pub write-line : (kind byte wait : ℕ) (out : List ℕ)
+      → Tells (answerIn (writeCall kind byte wait out .returned)) (writerRows kind byte out)
+  pub read-line : (text out : List ℕ) → Tells (answerIn (readCall text out .returned)) (readRows text out)

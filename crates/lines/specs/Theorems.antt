@@ -3,15 +3,15 @@
 -- Assumes nothing.
 use mathlib.Core.Bool.{false}
 use mathlib.Core.List.{List, [], _∷_, _++_}
-use mathlib.Core.Logic.{_⊎_, _↔_}
+use mathlib.Core.Logic.{_⊎_}
 use mathlib.Core.Path.{_≡_}
 use Prim.Native.Nat.{ℕ, _<_, _≤_}
-use lib.Dec.{ltb}
 use lib.ListN.{length, take}
 use Rattle.controller.specs.declared.answers.Answer.the-variants.{Done}
 use Rattle.controller.specs.declared.sent.Sent.{Sent}
 use Rattle.controller.specs.Bus.{badTransfer}
-use Rattle.controller.specs.Answers.{numberOf, Row, Given}
+use Rattle.controller.specs.Answers.{numberOf, Row, Tells}
+use Rattle.controller.specs.Rows.{NoTransfer}
 use Rattle.lines.specs.declared.reader.Line.{Line}
 use Rattle.lines.specs.declared.writer.Written.{Written}
 use Rattle.lines.specs.Line.{line, waitLimit}
@@ -80,22 +80,20 @@ ReadIsSayable =
 -- The rows of the writer: 3, then 11.
 unfoldable pub writerRows : ℕ → ℕ → List ℕ → List Row
 writerRows kind byte out =
-    record { number = 3; applies = badTransfer kind byte } ∷ record { number = 11; applies = ltb (length out) 16 } ∷ []
+    record { number = 3; applies = NoTransfer kind byte } ∷ record { number = 11; applies = length out < 16 } ∷ []
 
 -- Each number is given exactly where its row applies and none before it in the order.
 abbrev pub WriterAnswers : Type 0
 WriterAnswers =
-    (kind byte wait : ℕ) (out : List ℕ) (n : ℕ)
-    → (numberOf (lineWriting kind byte wait out .answer) ≡ n) ↔ Given n (writerRows kind byte out)
+    (kind byte wait : ℕ) (out : List ℕ) → Tells (numberOf (lineWriting kind byte wait out .answer)) (writerRows kind byte out)
 
 -- The row of a call for which the buffer must have this size: 11.
 unfoldable pub wantingRows : ℕ → List ℕ → List Row
-wantingRows size out = record { number = 11; applies = ltb (length out) size } ∷ []
+wantingRows size out = record { number = 11; applies = length out < size } ∷ []
 
 -- A call that writes a report's row or header gives 11 exactly where the buffer is shorter than wanted.
 abbrev pub TextAnswers : Type 0
-TextAnswers =
-    (size : ℕ) (text out : List ℕ) (n : ℕ) → (numberOf (wanting size text out .answer) ≡ n) ↔ Given n (wantingRows size out)
+TextAnswers = (size : ℕ) (text out : List ℕ) → Tells (numberOf (wanting size text out .answer)) (wantingRows size out)
 
 -- A line is at most 16 bytes, so that the buffer that the writer wants takes it.
 abbrev pub LinesFit : Type 0

@@ -1,53 +1,53 @@
 -- What is proved of the definitions beside demand 3: each theorem is a type here, and its proof stands in proofs/Theorems.
 -- Assumes nothing.
-use mathlib.Core.Bool.{true, false, not, _&&_}
+use mathlib.Core.Bool.{true, false, cond}
 use mathlib.Core.List.{List, [], _∷_}
 use mathlib.Core.Logic.{_⊎_, _↔_}
 use mathlib.Core.Path.{_≡_}
 use Prim.Native.Nat.{ℕ, zero, suc, _≤_, _<_}
-use lib.Dec.{ltb}
 use lib.ListN.{length, getD, drop, replicate}
-use Rattle.controller.specs.Bus.{whole}
-use Rattle.controller.specs.Cells.{lineLength}
-use Rattle.controller.specs.Answers.{numberOf, Row, Given}
+use Rattle.controller.specs.Answers.{numberOf, Row, Tells}
 use Rattle.controller.specs.Record.{sound}
+use Rattle.controller.specs.Rows.{NotLong}
 use Rattle.controller.specs.declared.sent.Sent.{Sent}
 use Rattle.controller.specs.Runs.{State, heard, ran}
 use Rattle.controller.specs.declared.answers.Answer.the-variants.{Done}
 use Rattle.planner.specs.declared.call.Planned.{Planned}
 use Rattle.planner.specs.declared.wish.Wish.{Wish}
-use Rattle.planner.specs.Call.{replyTo, wanted, Plans}
+use Rattle.planner.specs.Call.{replyTo, Plans}
 use Rattle.planner.specs.Demand.{Bytes, EachBegun, NoneBusy, Spared, Stands, Whole, excepted, joined}
 use Rattle.controller.specs.Sent.{sentAt}
 use Rattle.planner.specs.Plan.{single, planOf}
 use Rattle.planner.specs.Wish.{isWish}
-
--- The rows of plan in their order.
-unfoldable pub planRows : Wish → List ℕ → List ℕ → List ℕ → List Row
-planRows wish marks values out =
-    record { number = 2; applies = not (whole marks && whole values) }
-    ∷ record { number = 13; applies = not (isWish wish marks) }
-    ∷ record { number = 11; applies = ltb (length out) wanted }
-    ∷ []
-
--- Each number is given exactly where its row applies and none before it in the order.
-abbrev pub PlanAnswers : Type 0
-PlanAnswers =
-    (wish : Wish) (marks values out : List ℕ) (n : ℕ)
-    → (numberOf (replyTo wish marks values out .answer) ≡ n) ↔ Given n (planRows wish marks values out)
 
 -- Some mark is above 1.
 unfoldable pub MarkAbove : List ℕ → Type 0
 MarkAbove [] = ⊥
 MarkAbove (mark ∷ marks) = (1 < mark) ⊎ MarkAbove marks
 
--- Not a wish: N=F=1, a shift or cursor out of range, or a mark above 1, and nothing else.
+-- Row 13: N=F=1, a shift of L or more, which is 40 with N=1 and else 80, a cursor of 80 or more, or a mark above 1.
+abbrev pub NotWished : Wish → List ℕ → Type 0
+NotWished wish marks =
+    ((wish .function .n ≡ true) × (wish .function .f ≡ true))
+    ⊎ ((cond (wish .function .n) 40 80 ≤ wish .shift) ⊎ ((80 ≤ wish .cursor) ⊎ MarkAbove marks))
+
+-- The rows of plan in their order.
+unfoldable pub planRows : Type 0 → List ℕ → List ℕ → List ℕ → List Row
+planRows notWished marks values out =
+    record { number = 2; applies = NotLong marks ⊎ NotLong values }
+    ∷ record { number = 13; applies = notWished }
+    ∷ record { number = 11; applies = length out < 2808 }
+    ∷ []
+
+-- Each number is given exactly where its row applies and none before it in the order.
+abbrev pub PlanAnswers : Type 0
+PlanAnswers =
+    (wish : Wish) (marks values out : List ℕ)
+    → Tells (numberOf (replyTo wish marks values out .answer)) (planRows (NotWished wish marks) marks values out)
+
+-- What is not a wish is closed: these, and nothing else.
 abbrev pub NotWishes : Type 0
-NotWishes =
-    (wish : Wish) (marks : List ℕ)
-    → (isWish wish marks ≡ false)
-    ↔ (((wish .function .n ≡ true) × (wish .function .f ≡ true))
-    ⊎ ((lineLength (wish .function .n) ≤ wish .shift) ⊎ ((80 ≤ wish .cursor) ⊎ MarkAbove marks)))
+NotWishes = (wish : Wish) (marks : List ℕ) → (isWish wish marks ≡ false) ↔ NotWished wish marks
 
 -- A refused call plans nothing and leaves the buffer as found.
 abbrev pub PlanRefusals : Type 0

@@ -2,20 +2,19 @@
 -- Assumes nothing.
 use mathlib.Core.Bool.{true}
 use mathlib.Core.List.{List, [], _∷_, _++_}
-use mathlib.Core.Logic.{_⊎_, _↔_}
+use mathlib.Core.Logic.{_⊎_}
 use mathlib.Core.Path.{_≡_}
-use Prim.Native.Nat.{ℕ, _^_, _<_, _≤_}
-use lib.Dec.{ltb}
+use Prim.Native.Nat.{ℕ, _+_, _*_, _^_, _<_, _≤_}
 use lib.ListN.{length}
 use Rattle.controller.specs.declared.answers.Answer.the-variants.{Done, BadLine}
-use Rattle.controller.specs.Answers.{numberOf, Row, Given}
+use Rattle.controller.specs.Answers.{numberOf, Row, Tells}
 use Rattle.controller.specs.Record.{sound}
 use Rattle.controller.specs.declared.sent.Sent.{Sent}
-use Rattle.controller.specs.Runs.{heard}
+use Rattle.controller.specs.Runs.{heard, ran}
 use Rattle.lines.specs.declared.writer.Written.{Written}
 use Rattle.lines.specs.Line.{linesOf}
-use Rattle.lines.specs.ReportText.{header}
-use Rattle.lines.specs.Theorems.{AllSayable}
+use Rattle.lines.specs.ReportText.{header, row}
+use Rattle.lines.specs.Theorems.{AllSayable, Starts}
 use Rattle.lines.specs.Writing.{Writes}
 use Rattle.player.specs.declared.through.Standing.{Standing}
 use Rattle.player.specs.Session.{sessionOf}
@@ -40,13 +39,38 @@ SessionEnds = (text : List ℕ) → (sessionOf text .end ≡ Done) ⊎ (sessionO
 abbrev pub ReportFits : Type 0
 ReportFits = (text : List ℕ) → length text < 2 ^ 63 → length (report text) ≤ reportSize text
 
--- The row of play: 11.
+-- The row of play: 11, where the buffer is shorter than that.
 unfoldable pub playRows : List ℕ → List ℕ → List Row
-playRows text out = record { number = 11; applies = ltb (length out) (reportSize text) } ∷ []
+playRows text out = record { number = 11; applies = length out < 6 * length text + 62 } ∷ []
 
--- 11 is given exactly where the buffer is shorter than that.
+-- 11 is given exactly there.
 abbrev pub PlayAnswers : Type 0
-PlayAnswers = (text out : List ℕ) (n : ℕ) → (numberOf (playing text out .answer) ≡ n) ↔ Given n (playRows text out)
+PlayAnswers = (text out : List ℕ) → Tells (numberOf (playing text out .answer)) (playRows text out)
+
+-- A text is no session: there are no transfers whose lines it is.
+abbrev pub NoSession : List ℕ → Type 0
+NoSession text = (ts : List Sent) → AllSayable ts → text ≡ linesOf ts → ⊥
+
+-- The row of play_through: 12.
+unfoldable pub throughRows : List ℕ → List Row
+throughRows text = record { number = 12; applies = NoSession text } ∷ []
+
+-- 12 is given exactly where the text is no session.
+abbrev pub ThroughAnswers : Type 0
+ThroughAnswers = (text : List ℕ) → Tells (numberOf (standing text .answer)) (throughRows text)
+
+-- Lines of transfers, and then something that no line starts: the bad line. Its row has its number, answer 12, byte 00 and the
+-- busy as it stands, and ends the report; the bench stands as the transfers before it leave it.
+pub record BadLineTold (ts : List Sent) (text : List ℕ) : Type 0 where
+  pub row : report text ≡ header ++ (rowsFrom 1 (heard start ts) ++ row (1 + length ts) 12 0x00 (ran start ts .rec .busy))
+  pub stands :
+      standing text
+      ≡ record { answer = BadLine; number = 1 + length ts; rec = ran start ts .rec; memory = ran start ts .mem }
+
+-- So with every bad line, wherever it stands.
+abbrev pub BadLineEnds : Type 0
+BadLineEnds =
+    (ts : List Sent) (more : List ℕ) → AllSayable ts → 0 < length more → (Starts more → ⊥) → BadLineTold ts (linesOf ts ++ more)
 
 -- No second answer fits.
 abbrev pub OnePlay : Type 0

@@ -7,10 +7,10 @@ use lib.Dec.{ltb}
 use lib.ListN.{length}
 use Rattle.controller.proofs.Laws.Choice.{cond-elim}
 use Rattle.controller.proofs.Laws.Taken.{taken}
-use Rattle.controller.proofs.Theorems.Answers.{transfer-answers, reset-answers}
+use Rattle.controller.proofs.Theorems.Answers.{transfer-answers, loan-answers, reset-answers}
 use Rattle.controller.proofs.Theorems.Halves.{halves-make-whole}
 use Rattle.controller.proofs.Theorems.Rules.{data-rules, instruction-rules}
-use Rattle.controller.proofs.Theorems.Refusals.{transfer-refusals, reset-refusals}
+use Rattle.controller.proofs.Theorems.Refusals.{transfer-refusals, loan-refusals, reset-refusals}
 use Rattle.controller.proofs.Theorems.Sound.{transfer-keeps-sound, reset-makes-sound, effects-fit}
 use Rattle.controller.specs.Bus.{badTransfer}
 use Rattle.controller.specs.Answers.{numberOf}
@@ -25,6 +25,7 @@ use Rattle.lines.specs.Writing.{Writing, onto, wanting, lineWriting}
 use Rattle.lines.specs.declared.writer.Written.{Written}
 use Rattle.planner.proofs.Theorems.Plan.{planned-runs}
 use Rattle.planner.proofs.Theorems.Wish.{not-wishes, plan-answers, plan-refusals}
+use Rattle.player.proofs.Theorems.Ends.{bad-line-ends, through-answers}
 use Rattle.player.proofs.Theorems.One.{play-answers}
 use Rattle.player.specs.Report.{report, reportSize, playing}
 use Rattle.promises.proofs.Determined.{each-determined}
@@ -35,6 +36,7 @@ pub each-answer : EachAnswer
 each-answer =
     record {
       transfer = transfer-answers;
+      loan = loan-answers;
       reset = reset-answers;
       picture = picture-answers;
       plan = plan-answers;
@@ -42,6 +44,7 @@ each-answer =
       writer = writer-answers;
       texts = text-answers;
       play = play-answers;
+      through = through-answers;
       draw = draw-answers;
       c-calls = call-answers;
     }
@@ -75,12 +78,14 @@ demand-1 =
       numbers = each-answer;
       wishes = not-wishes;
       transfer = transfer-refusals;
+      loan = loan-refusals;
       reset = reset-refusals;
       picture = picture-refusals;
       plan = plan-refusals;
       writer = λ kind byte wait out. leaves _ out (writer-nothing kind byte wait out);
       texts = λ size text out. leaves _ out (wanting-nothing size text out);
       play = λ text out. leaves _ out (play-nothing text out);
+      through = bad-line-ends;
       draw = draw-refusals;
       c-calls = call-refusals;
     }

@@ -11,7 +11,8 @@ use Rattle.controller.specs.Record.{sound, waited}
 use Rattle.controller.specs.Rules.{DataRules, HalvesMakeWhole, InstructionRules}
 use Rattle.controller.specs.declared.«record».Record.{Record}
 use Rattle.controller.specs.Answers.{numberOf}
-use Rattle.controller.specs.Theorems.{TransferKeepsSound, ResetMakesSound, EffectsFit, TransferRefusals, ResetRefusals}
+use Rattle.controller.specs.Theorems.{TransferKeepsSound, ResetMakesSound, EffectsFit}
+use Rattle.controller.specs.Theorems.{TransferRefusals, LoanRefusals, ResetRefusals}
 use Rattle.drawing.specs.Theorems.{DrawRefusals}
 use Rattle.dots.specs.Theorems.{EachByte, LaterStay, PictureRefusals}
 use Rattle.interface.specs.Theorems.{CallRefusals}
@@ -20,6 +21,7 @@ use Rattle.lines.specs.Writing.{Writing, Writes, wanting, lineWriting}
 use Rattle.lines.specs.declared.writer.Written.{Written}
 use Rattle.planner.specs.Theorems.{NotWishes, PlanRefusals, PlannedRuns}
 use Rattle.player.specs.Report.{playing}
+use Rattle.player.specs.Theorems.{BadLineEnds}
 use Rattle.promises.specs.Answers.{EachAnswer}
 use Rattle.promises.specs.Determined.{EachDetermined}
 
@@ -31,19 +33,21 @@ LeavesBuffer w out =
 
 -- 1. Every call answers every input. Nothing has to be checked first; bad input gets a numbered refusal, and no refusal alters a
 -- memory cell or an output buffer. What it leaves in the controller's record is listed.
--- The loan call shares `decided` with `transfer`, and with it all that is said of refusals; `texts` speaks of rows and header,
--- `c-calls` of the calls for C.
+-- `loan` speaks of the loan call, `texts` of rows and header, `through` of a text that is played without a report, `c-calls` of
+-- the calls for C.
 pub record Demand1 : Type 0 where
   pub answers : EachDetermined
   pub numbers : EachAnswer
   pub wishes : NotWishes
   pub transfer : TransferRefusals
+  pub loan : LoanRefusals
   pub reset : ResetRefusals
   pub picture : PictureRefusals
   pub plan : PlanRefusals
   pub writer : (kind byte wait : ℕ) (out : List ℕ) → LeavesBuffer (lineWriting kind byte wait out) out
   pub texts : (size : ℕ) (text out : List ℕ) → LeavesBuffer (wanting size text out) out
   pub play : (text out : List ℕ) → LeavesBuffer (playing text out) out
+  pub through : BadLineEnds
   pub draw : DrawRefusals
   pub c-calls : CallRefusals
 

@@ -1,15 +1,16 @@
 -- Laws of the answers: an answer and its number say each other, and the number of the first row that applies is given exactly there.
 -- Assumes nothing.
-use mathlib.Core.Bool.{Bool, true, false, cond, true≢false, false≢true}
+use mathlib.Core.Bool.{Bool, true, false, cond}
 use mathlib.Core.List.{List, [], _∷_}
-use mathlib.Core.Logic.{_⊎_, inl, inr, _↔_}
+use mathlib.Core.Logic.{_⊎_, inl, inr, ⊎-elim}
 use mathlib.Core.Path.{_≡_, refl, sym, ap, _∙_}
 use Prim.Native.Nat.{ℕ, _<_}
 use lib.Dec.{eqb, lit<}
 use borrow.Author.Tests.{eqb-true}
+use Rattle.controller.proofs.Laws.Tests.{Tests}
 use Rattle.controller.specs.declared.answers.Answer.{Answer}
 use Rattle.controller.specs.declared.answers.Answer.the-variants.{Done, Unsound, NotWhole, BadTransfer, Busy, FirstHalf, NoCell, StaleRead, CrossedHalves, CounterOff, BadSize, OutputShort, BadLine, NotWish}
-use Rattle.controller.specs.Answers.{numberOf, isDone, Row, Given}
+use Rattle.controller.specs.Answers.{numberOf, isDone, Row, Given, Tells}
 
 -- the first of these answers that has this number
 unfoldable having : ℕ → List Answer → Answer
@@ -50,32 +51,19 @@ one-answer a b same = sym (numbered a .1) ∙ ap (λ (n : ℕ). having n answers
 pub done-is : (answer : Answer) → isDone answer ≡ true → answer ≡ Done
 done-is answer e = one-answer answer Done (eqb-true (numberOf answer) 0 e)
 
--- the number of the first row that applies
-unfoldable pub first : List Row → ℕ
-first [] = 0
-first (row ∷ rows) = cond (row .applies) (row .number) (first rows)
+-- no row is left: 0 is given
+pub none-applies : Tells 0 []
+unfolding Given
+none-applies n = (sym, sym)
 
--- one row
-row-to : (t : Bool) (m n rest : ℕ) (G : Type 0) → cond t m rest ≡ n → (rest ≡ n → G) → ((t ≡ true) × (m ≡ n)) ⊎ ((t ≡ false) × G)
-row-to true m n rest G e later = inl (refl, e)
-row-to false m n rest G e later = inr (refl, later e)
+-- a row's number where its test is true, and else what the rows after it give
+pub row-applies : (row : Row) (rows : List Row) (test : Bool) (rest : ℕ) → Tests test (row .applies)
+    → ((row .applies → ⊥) → Tells rest rows) → Tells (cond test (row .number) rest) (row ∷ rows)
+unfolding Given
+row-applies row rows true rest t later n = (λ e. inl (t .yes refl, e), ⊎-elim (λ here. here .1) (λ there. absurd (there .0 (t .yes refl))))
+row-applies row rows false rest t later n =
+    (λ e. inr (t .no refl, later (t .no refl) n .0 e), ⊎-elim (λ here. absurd (t .no refl (here .0))) (λ there. later (there .0) n .1 (there .1)))
 
-row-from : (t : Bool) (m n rest : ℕ) (G : Type 0) → ((t ≡ true) × (m ≡ n)) ⊎ ((t ≡ false) × G) → (G → rest ≡ n) → cond t m rest ≡ n
-row-from true m n rest G (inl here) later = here .1
-row-from true m n rest G (inr there) later = absurd (true≢false (there .0))
-row-from false m n rest G (inl here) later = absurd (false≢true (here .0))
-row-from false m n rest G (inr there) later = later (there .1)
-
-given-to : (n : ℕ) (rows : List Row) → first rows ≡ n → Given n rows
-unfolding first Given
-given-to n [] e = sym e
-given-to n (row ∷ rows) e = row-to (row .applies) (row .number) n (first rows) (Given n rows) e (given-to n rows)
-
-given-from : (n : ℕ) (rows : List Row) → Given n rows → first rows ≡ n
-unfolding first Given
-given-from n [] e = sym e
-given-from n (row ∷ rows) e = row-from (row .applies) (row .number) n (first rows) (Given n rows) e (given-from n rows)
-
--- an answer that is the first row's number is given exactly there
-pub given : (answer : ℕ) (rows : List Row) → answer ≡ first rows → (n : ℕ) → (answer ≡ n) ↔ Given n rows
-given answer rows is n = (λ e. given-to n rows (sym is ∙ e), λ g. is ∙ given-from n rows g)
+-- an answer with this number gives what the number gives
+pub tells-as : (answer number : ℕ) (rows : List Row) → answer ≡ number → Tells number rows → Tells answer rows
+tells-as answer number rows is by n = (λ e. by n .0 (sym is ∙ e), λ g. is ∙ by n .1 g)

@@ -17,7 +17,9 @@ use Rattle.controller.specs.declared.instruction.Instruction.{Instructio
 use Rattle.controller.specs.declared.answers.Answer.the-variants.{Done, NotWhole, StaleRead}
 use Rattle.controller.specs.declared.decision.Effect.the-variants.{Blank}
 use Rattle.controller.proofs.Laws.Instruction.{decoded-address, decoded-elim}
-use Rattle.controller.proofs.Laws.Answers.{first, given}
+use Rattle.controller.proofs.Laws.Answers.{none-applies, row-applies, tells-as}
+use Rattle.controller.proofs.Laws.Rows.{bad-tests, early-tests, first-tests, off-tests, sound-tests, whole-tests}
+use Rattle.controller.proofs.Laws.Tests.{tests-itself}
 use Rattle.controller.specs.declared.«record».Half.{Half}
 use Rattle.controller.specs.declared.«record».Half.the-variants.{Empty, InstructionWrite, DataWrite, StatusRead, DataRead}
 use Rattle.controller.specs.declared.«record».Record.{Record}
@@ -29,8 +31,8 @@ use Rattle.controller.specs.Execute.{completed, executed, addressed, wri
 use Rattle.controller.specs.Halves.{accepted, narrow, begun, firstHalf, secondHalf, crossed}
 use Rattle.controller.specs.Instruction.{decoded}
 use Rattle.controller.specs.Record.{resetRecord, sound, waited, withHalf}
-use Rattle.controller.specs.Rows.{secondIs, completeIs, isFirst, isOutside, lacksCell, readsStale, otherKind, isCrossed, transferRows, resetRows}
-use Rattle.controller.specs.Theorems.{TransferAnswers, ResetAnswers}
+use Rattle.controller.specs.Rows.{secondIs, completeIs, isOutside, lacksCell, readsStale, otherKind, isCrossed, transferRows, resetRows}
+use Rattle.controller.specs.Theorems.{TransferAnswers, LoanAnswers, ResetAnswers}
 
 abbrev numbered : Decision → ℕ
 numbered d = numberOf (d .answer)
@@ -96,10 +98,14 @@ first-number (Write byte) rec = refl
 first-number (Status byte) rec = refl
 first-number (Read byte) rec = refl
 
+-- a first half, as the definition tests it
+abbrev isFirst : Record → Bool
+isFirst rec = not (rec .wide) && noHalf (rec .half)
+
 accepted-number : (mem : List ℕ) (kind byte : ℕ) (rec : Record)
     → numbered (accepted mem kind byte rec)
     ≡ cond (isFirst rec) 5 (cond (completeIs lacksCell kind byte rec) 6 (cond (completeIs readsStale kind byte rec) 7 (cond (isCrossed kind rec) 8 0)))
-unfolding accepted narrow isFirst completeIs isCrossed secondIs otherKind
+unfolding accepted narrow completeIs isCrossed secondIs otherKind
 accepted-number mem kind byte rec = go (rec .wide) (rec .half)
   where
     go : (wide : Bool) (half : Half)
@@ -116,8 +122,11 @@ accepted-number mem kind byte rec = go (rec .wide) (rec .half)
     go false (DataRead taken) = second-number mem _ _ rec
 
 decided-number : (rec : Record) (mem : List ℕ) (kind byte wait : ℕ)
-    → numbered (decided rec mem kind byte wait) ≡ first (transferRows rec mem kind byte wait)
-unfolding decided ordered transferRows first
+    → let later = waited wait rec in
+    numbered (decided rec mem kind byte wait)
+    ≡ cond (not (sound rec)) 1 (cond (not (whole mem)) 2 (cond (badTransfer kind byte) 3 (cond (mustWait kind later) 4 (cond (not (onCell (rec .counter))) 9
+    (cond (isFirst later) 5 (cond (completeIs lacksCell kind byte later) 6 (cond (completeIs readsStale kind byte later) 7 (cond (isCrossed kind later) 8 0))))))))
+unfolding decided ordered
 decided-number rec mem kind byte wait =
     cond-map numbered (not (sound rec)) _ _ 1 _ (λ _. refl)
     (λ _. cond-map numbered (not (whole mem)) _ _ 2 _ (λ _. refl)
@@ -127,8 +136,22 @@ decided-number rec mem kind byte wait =
     (λ _. accepted-number mem kind byte (waited wait rec))))))
 
 pub transfer-answers : TransferAnswers
+unfolding transferRows
 transfer-answers rec mem kind byte wait =
-    given (numbered (decided rec mem kind byte wait)) (transferRows rec mem kind byte wait) (decided-number rec mem kind byte wait)
+    tells-as _ _ _ (decided-number rec mem kind byte wait)
+    (row-applies _ _ _ _ (sound-tests rec)
+    (λ _. row-applies _ _ _ _ (whole-tests mem)
+    (λ _. row-applies _ _ _ _ (bad-tests kind byte)
+    (λ _. row-applies _ _ _ _ (early-tests kind wait rec)
+    (λ _. row-applies _ _ _ _ (off-tests (rec .counter))
+    (λ _. row-applies _ _ _ _ (first-tests wait rec)
+    (λ _. row-applies _ _ _ _ (tests-itself _)
+    (λ _. row-applies _ _ _ _ (tests-itself _)
+    (λ _. row-applies _ _ _ _ (tests-itself _)
+    (λ _. none-applies))))))))))
+
+pub loan-answers : LoanAnswers
+loan-answers rec mem kind byte wait told lent after meets = tells-as _ _ _ (meets .number) (transfer-answers rec mem kind byte wait)
 
 -- no first half and no complete transfer is answered 4
 never-four : (first lacks stale other : Bool) → _≡_ {A = ℕ} (cond first 5 (cond lacks 6 (cond stale 7 (cond other 8 0)))) 4 → ⊥
@@ -156,8 +179,8 @@ four-waits rec mem kind byte wait =
     (λ _. cond-elim P (not (onCell (rec .counter))) _ _ (λ _ e. absurd (omega arith))
     (λ _ e. absurd (accepted-never mem kind byte (waited wait rec) e))))))
 
-reset-number : (rec : Record) (mem : List ℕ) → numbered (resetDecided rec mem) ≡ first (resetRows mem)
-unfolding resetDecided resetRows first
+reset-number : (rec : Record) (mem : List ℕ) → numbered (resetDecided rec mem) ≡ cond (not (whole mem)) 2 0
+unfolding resetDecided
 reset-number rec mem = go (whole mem)
   where
     go : (w : Bool) → numbered (cond w (record { answer = Done; byte = 0; rec = resetRecord; effect = Blank }) (refused NotWhole rec)) ≡ cond (not w) 2 0
@@ -165,4 +188,5 @@ reset-number rec mem = go (whole mem)
     go false = refl
 
 pub reset-answers : ResetAnswers
-reset-answers rec mem = given (numbered (resetDecided rec mem)) (resetRows mem) (reset-number rec mem)
+unfolding resetRows
+reset-answers rec mem = tells-as _ _ _ (reset-number rec mem) (row-applies _ _ _ _ (whole-tests mem) (λ _. none-applies))

@@ -12,7 +12,9 @@ use Rattle.controller.proofs.Laws.Record.{sound-half, waited-sound}
 use Rattle.controller.specs.declared.answers.Answer.{Answer}
 use Rattle.controller.specs.declared.answers.Answer.the-variants.{NotWhole, NoCell}
 use Rattle.controller.specs.declared.decision.Decision.{Decision}
+use Rattle.controller.specs.declared.decision.Effect.the-variants.{Keep}
 use Rattle.controller.specs.declared.execute.Transfer.{Transfer}
+use Rattle.controller.specs.declared.loan.Told.{Told}
 use Rattle.controller.specs.declared.execute.Transfer.the-variants.{Instruct, Write, Status, Read}
 use Rattle.controller.specs.declared.«record».Half.{Half}
 use Rattle.controller.specs.declared.«record».Half.the-variants.{Empty, InstructionWrite, DataWrite, StatusRead, DataRead}
@@ -20,11 +22,11 @@ use Rattle.controller.specs.declared.«record».Record.{Record}
 use Rattle.controller.specs.Bus.{decided, ordered, resetDecided, whole, badTransfer, mustWait}
 use Rattle.controller.specs.Cells.{onCell}
 use Rattle.controller.specs.Answers.{isDone, isRefusal}
-use Rattle.controller.specs.Decision.{refused}
+use Rattle.controller.specs.Decision.{refused, performed}
 use Rattle.controller.specs.Execute.{completed}
 use Rattle.controller.specs.Halves.{accepted, narrow, begun, firstHalf, secondHalf, crossed, ended}
 use Rattle.controller.specs.Record.{sound, waited, withHalf}
-use Rattle.controller.specs.Theorems.{left, LeavesAsSaid, TransferRefusals, ResetRefusals}
+use Rattle.controller.specs.Theorems.{left, LeavesAsSaid, TransferRefusals, LoanRefusals, ResetRefusals}
 
 -- this decision, if it refuses, is a 6 that leaves this record
 abbrev OnlySix : Record → Decision → Type 0
@@ -90,6 +92,20 @@ transfer-refusals rec mem kind byte wait =
     (λ _. cond-elim P (not (onCell (rec .counter))) _ _ (λ _ _. refl)
     (λ _. six-leaves wait rec (accepted mem kind byte (waited wait rec))
     (accepted-only mem kind byte (waited wait rec) (waited-sound wait rec (not-false _ s))))))))
+
+kept-is : (mem : List ℕ) → performed Keep mem ≡ mem
+unfolding performed
+kept-is mem = refl
+
+pub loan-refusals : LoanRefusals
+loan-refusals rec mem kind byte wait told lent after meets refusal =
+    let d = decided rec mem kind byte wait in
+    let same : told .answer ≡ d .answer = ap (λ (t : Told). t .answer) (meets .told) in
+    let leaves = transfer-refusals rec mem kind byte wait (ap isRefusal (sym same) ∙ refusal) in (
+      ap (λ (t : Told). t .byte) (meets .told) ∙ ap (λ (e : Decision). e .byte) leaves,
+      meets .left ∙ ap (λ (e : Decision). e .rec) leaves ∙ ap (λ (a : Answer). left a wait rec) (sym same),
+      meets .memory ∙ ap (λ (e : Decision). performed (e .effect) mem) leaves ∙ kept-is mem,
+    )
 
 pub reset-refusals : ResetRefusals
 unfolding resetDecided isRefusal

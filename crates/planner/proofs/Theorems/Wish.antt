@@ -1,24 +1,26 @@
 -- What is answered to which wish, and what is not a wish.
 -- Assumes nothing.
-use mathlib.Core.Bool.{Bool, true, false, cond, not, _&&_, and-false, true≢false}
+use mathlib.Core.Bool.{Bool, true, false, cond, not, _&&_, true≢false}
 use mathlib.Core.List.{List, [], _∷_}
-use mathlib.Core.Logic.{_⊎_, inl, inr, ⊎-elim}
+use mathlib.Core.Logic.{_⊎_}
 use mathlib.Core.Path.{_≡_, refl, sym, ap, _∙_}
-use Prim.Native.Nat.{ℕ}
-use lib.Dec.{ltb, leb}
+use Prim.Native.Nat.{ℕ, _≤_}
+use lib.Dec.{ltb}
 use lib.ListN.{length}
-use borrow.Author.Tests.{ltb-false, leb-false, le-ltb, lt-leb, not-false}
 use Rattle.controller.proofs.Laws.Choice.{cond-elim, cond-map, and-left, and-right}
-use Rattle.controller.proofs.Laws.Answers.{first, given}
+use Rattle.controller.proofs.Laws.Answers.{none-applies, row-applies, tells-as}
+use Rattle.controller.proofs.Laws.Rows.{whole-fails}
+use Rattle.controller.proofs.Laws.Tests.{Fails, Tests, fails-and, fails-as, fails-false, fails-le, fails-lt, fails-not, tests-fails, tests-lt}
+use Rattle.controller.specs.Rows.{NotLong}
 use Rattle.controller.specs.Bus.{whole}
 use Rattle.controller.specs.Cells.{lineLength}
-use Rattle.controller.specs.Answers.{numberOf}
+use Rattle.controller.specs.Answers.{numberOf, Tells}
 use Rattle.controller.specs.declared.answers.Answer.the-variants.{NotWhole}
 use Rattle.planner.specs.declared.call.Planned.{Planned}
 use Rattle.planner.specs.declared.wish.Wish.{Wish}
 use Rattle.planner.specs.Call.{Reply, wanted, turnedDown, replyTo, laidOut}
 use Rattle.planner.specs.Plan.{encoded}
-use Rattle.planner.specs.Theorems.{planRows, PlanAnswers, MarkAbove, NotWishes, PlanRefusals, OnePlan}
+use Rattle.planner.specs.Theorems.{planRows, PlanAnswers, MarkAbove, NotWished, NotWishes, PlanRefusals, OnePlan}
 use Rattle.planner.specs.Wish.{marksFit, isWish}
 
 abbrev numbered : Reply → ℕ
@@ -31,52 +33,53 @@ either true true later n is = is
 either true false later n is = refl
 either false b later n is = refl
 
-reply-number : (wish : Wish) (marks values out : List ℕ) → numbered (replyTo wish marks values out) ≡ first (planRows wish marks values out)
-unfolding replyTo planRows first
+reply-number : (wish : Wish) (marks values out : List ℕ)
+    → numbered (replyTo wish marks values out) ≡ cond (not (whole marks && whole values)) 2 (cond (not (isWish wish marks)) 13 (cond (ltb (length out) wanted) 11 0))
+unfolding replyTo
 reply-number wish marks values out =
     either (whole marks) (whole values) _ _
     (cond-map numbered (not (isWish wish marks)) _ _ 13 _ (λ _. refl)
     (λ _. cond-map numbered (ltb (length out) wanted) _ _ 11 0 (λ _. refl) (λ _. refl)))
 
+marks-fail : (marks : List ℕ) → Fails (marksFit marks) (MarkAbove marks)
+unfolding marksFit MarkAbove
+marks-fail [] = record { yes = true≢false; no = λ _ none. none }
+marks-fail (mark ∷ marks) = fails-and _ _ (fails-le mark 1) (marks-fail marks)
+
+-- N and F both 1
+both-fail : (n f : Bool) → Fails (not (n && f)) ((n ≡ true) × (f ≡ true))
+both-fail n f =
+    fails-as (λ (both : (n && f) ≡ true). (and-left n f both, and-right n f both)) (λ both. rw (both .0, both .1) refl) (fails-not (n && f))
+
+shift-fails : (n : Bool) (shift : ℕ) → Fails (ltb shift (lineLength n)) (cond n 40 80 ≤ shift)
+shift-fails true shift = fails-lt shift 40
+shift-fails false shift = fails-lt shift 80
+
+pub wish-fails : (wish : Wish) (marks : List ℕ) → Fails (isWish wish marks) (NotWished wish marks)
+unfolding isWish
+wish-fails wish marks =
+    fails-and _ _ (both-fail (wish .function .n) (wish .function .f))
+    (fails-and _ _ (shift-fails (wish .function .n) (wish .shift)) (fails-and _ _ (fails-lt (wish .cursor) 80) (marks-fail marks)))
+
+-- marks or values not 144 long
+pub lengths-fail : (marks values : List ℕ) → Tests (not (whole marks && whole values)) (NotLong marks ⊎ NotLong values)
+lengths-fail marks values = tests-fails _ (fails-and _ _ (whole-fails marks) (whole-fails values))
+
+-- the rows after the lengths, where this says what is not a wish
+pub plan-given : (wish : Wish) (marks values out : List ℕ) {NotOne : Type 0} → Tests (not (isWish wish marks)) NotOne
+    → Tells (numbered (replyTo wish marks values out)) (planRows NotOne marks values out)
+unfolding planRows wanted
+plan-given wish marks values out none =
+    tells-as _ _ _ (reply-number wish marks values out)
+    (row-applies _ _ _ _ (lengths-fail marks values)
+    (λ _. row-applies _ _ _ _ none (λ _. row-applies _ _ _ _ (tests-lt (length out) 2808) (λ _. none-applies))))
+
 pub plan-answers : PlanAnswers
-plan-answers wish marks values out = given (numbered (replyTo wish marks values out)) (planRows wish marks values out) (reply-number wish marks values out)
-
--- a joined test that fails
-and-fails : (a b : Bool) → (a && b) ≡ false → (a ≡ false) ⊎ (b ≡ false)
-and-fails true b e = inr e
-and-fails false b e = inl refl
-
-marks-above : (marks : List ℕ) → marksFit marks ≡ false → MarkAbove marks
-unfolding marksFit MarkAbove
-marks-above [] e = absurd (true≢false e)
-marks-above (mark ∷ marks) e =
-    ⊎-elim (λ above. inl (leb-false mark 1 above)) (λ later. inr (marks-above marks later)) (and-fails (leb mark 1) (marksFit marks) e)
-
-above-marks : (marks : List ℕ) → MarkAbove marks → marksFit marks ≡ false
-unfolding marksFit MarkAbove
-above-marks [] never = absurd never
-above-marks (mark ∷ marks) some =
-    ⊎-elim (λ above. rw (lt-leb mark 1 above)) (λ later. rw (above-marks marks later) (and-false (leb mark 1))) some
+plan-answers wish marks values out = plan-given wish marks values out (tests-fails (isWish wish marks) (wish-fails wish marks))
 
 pub not-wishes : NotWishes
-unfolding isWish
 not-wishes wish marks =
-    let n : Bool = wish .function .n in
-    let f : Bool = wish .function .f in
-    let shift : Bool = ltb (wish .shift) (lineLength n) in
-    let cursor : Bool = ltb (wish .cursor) 80 in (
-      (λ e. ⊎-elim (λ lines. inl (and-left n f (not-false _ lines), and-right n f (not-false _ lines)))
-          (λ e′. inr (⊎-elim (λ over. inl (ltb-false (wish .shift) (lineLength n) over))
-          (λ e″. inr (⊎-elim (λ past. inl (ltb-false (wish .cursor) 80 past)) (λ above. inr (marks-above marks above))
-          (and-fails cursor (marksFit marks) e″)))
-          (and-fails shift (cursor && marksFit marks) e′)))
-          (and-fails (not (n && f)) (shift && (cursor && marksFit marks)) e)),
-      (λ some. ⊎-elim (λ both. rw (both .0, both .1) refl)
-          (⊎-elim (λ over. rw (le-ltb (wish .shift) (lineLength n) over) (and-false (not (n && f))))
-          (⊎-elim (λ past. rw (le-ltb (wish .cursor) 80 past) (ap (λ (b : Bool). not (n && f) && b) (and-false shift) ∙ and-false (not (n && f))))
-          (λ above. rw (above-marks marks above) (ap (λ (b : Bool). not (n && f) && (shift && b)) (and-false cursor) ∙ ap (λ (b : Bool). not (n && f) && b) (and-false shift) ∙ and-false (not (n && f))))))
-          some),
-    )
+    (wish-fails wish marks .yes, λ not-wished. fails-false (isWish wish marks) (wish-fails wish marks) not-wished)
 
 pub one-plan : OnePlan
 one-plan wish marks values out a b x y is also = (is .told ∙ sym (also .told), is .buffer ∙ sym (also .buffer))

@@ -7,7 +7,7 @@ use Rattle.player.specs.Theorems.{playRows, PlayAnswers, OnePlay}
 
 pub play-answers : PlayAnswers
 unfolding playing playRows wantingRows
-play-answers text out n = text-answers (reportSize text) (report text) out n
+play-answers text out = text-answers (reportSize text) (report text) out
 
 pub one-play : OnePlay
 one-play text out a b x y is also = one-writing (playing text out) out a b x y is also
