@@ -6,3 +6,4 @@ pub mod One
 pub mod Cases
 pub mod Rules
 pub mod Halves
+pub mod HalfRules

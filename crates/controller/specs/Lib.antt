@@ -13,3 +13,4 @@ pub mod Rows
 pub mod Theorems
 pub mod Cases
 pub mod Rules
+pub mod HalfRules

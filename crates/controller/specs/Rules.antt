@@ -15,12 +15,13 @@ use Rattle.controller.specs.declared.decision.Effect.the-variants.{Keep}
 use Rattle.controller.specs.declared.«record».Half.the-variants.{Empty}
 use Rattle.controller.specs.declared.«record».Record.{Record}
 use Rattle.controller.specs.Answers.{numberOf}
-use Rattle.controller.specs.Bus.{badTransfer, decided}
+use Rattle.controller.specs.Bus.{decided}
 use Rattle.controller.specs.Cases.{Waits}
 use Rattle.controller.specs.Cells.{addressSet, onCell, placeOf}
 use Rattle.controller.specs.Decision.{performed}
 use Rattle.controller.specs.Halves.{highHalf, lowHalf}
 use Rattle.controller.specs.Record.{sound, withFunction}
+use Rattle.controller.specs.Rows.{NoTransfer}
 
 -- Width, N and F as they were.
 pub record SameFunction (old new : Record) : Type 0 where
@@ -305,7 +306,7 @@ pub record TwoMake (first second whole : Decision) : Type 0 where
 -- Width 4: a transfer in two halves of its kind, the second after any wait, is the whole transfer of width 8.
 abbrev pub HalvesMakeWhole : Type 0
 HalvesMakeWhole =
-    (rec : Record) (mem : List ℕ) (kind byte wait later : ℕ) → Waits rec mem false Empty wait → badTransfer kind byte ≡ false
+    (rec : Record) (mem : List ℕ) (kind byte wait later : ℕ) → Waits rec mem false Empty wait → (NoTransfer kind byte → ⊥)
     → byte < 256
     → let first : Decision = decided rec mem kind (highHalf byte) wait in
     TwoMake first (decided (first .rec) mem kind (lowHalf byte) later) (decided (atWidth true rec) mem kind byte wait)
@@ -315,6 +316,13 @@ abbrev pub ReadNeverShifts : Type 0
 ReadNeverShifts =
     (rec : Record) (mem : List ℕ) (wait : ℕ) → Waits rec mem true Empty wait
     → decided rec mem 3 0x00 wait .rec .shift ≡ rec .shift
+
+-- A status read alters nothing: of the record only busy, which the wait has come off, and no cell.
+abbrev pub StatusAltersNothing : Type 0
+StatusAltersNothing =
+    (rec : Record) (mem : List ℕ) (wait : ℕ) → Wide rec mem
+    → let d : Decision = decided rec mem 2 0x00 wait in
+    SameFunction rec (d .rec) × SameControl rec (d .rec) × SameEntry rec (d .rec) × SamePlace rec (d .rec) × SameCells mem d
 
 -- Changing N moves nothing: a Function Set leaves the counter, the shift and every cell where they were.
 abbrev pub FunctionMovesNothing : Type 0

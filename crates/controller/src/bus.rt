@@ -78,11 +78,10 @@ fn decide(rec: Record, memory: &[u8], kind: u8, byte: u8, wait: u32) -> Decision
     if !is_whole(memory) {
         return refuse(Answer::NotWhole, rec);
     }
-    let later = after_wait(wait, rec);
     if is_bad(kind, byte) {
         return refuse(Answer::BadTransfer, rec);
     }
-    decide_later(memory, kind, byte, rec, later)
+    decide_later(memory, kind, byte, rec, after_wait(wait, rec))
 }
 
 // What reset comes to.

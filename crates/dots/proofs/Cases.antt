@@ -11,6 +11,7 @@ use lib.ListN.{length, getD, set, length-set}
 use lib.Seq.{getD-set-same, getD-set-other, set-out}
 use Rattle.controller.specs.declared.«record».Record.{Record}
 use Rattle.controller.proofs.Laws.Taken.{taken-wide}
+use Rattle.controller.proofs.Laws.Rows.{bad-tests}
 use Rattle.controller.proofs.Theorems.Halves.{halves-make-whole, wide-waits}
 use Rattle.controller.specs.Rules.{atWidth}
 use Rattle.controller.specs.Bus.{whole, badTransfer, decided}
@@ -54,7 +55,7 @@ p5 false rec mem wait later w n s =
     let same : (byte : ℕ) (good : badTransfer 0 byte ≡ false) (is-byte : byte < 256) (first second : ℕ)
     → LinesStart (decided (atWidth true rec) mem 0 byte wait .rec) first second → LinesStart (taking false rec mem 0 byte wait later .rec) first second =
     λ byte good is-byte first second.
-    subst (λ (r : Record). LinesStart r first second) (sym (halves-make-whole rec mem 0 byte wait later w good is-byte .alike .rec)) in
+    subst (λ (r : Record). LinesStart r first second) (sym (halves-make-whole rec mem 0 byte wait later w (bad-tests 0 byte .no good) is-byte .alike .rec)) in
     (same 0x18 refl (omega arith) 0x01 0x41 (whole .0), same 0x1C refl (omega arith) 0x27 0x67 (whole .1))
 
 -- With 08h for 00h in a display cell: no pattern changes, and no cell shows another row.

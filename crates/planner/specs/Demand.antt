@@ -93,15 +93,15 @@ Spared marks start mem =
     (place : ℕ) → place < 144 → marked marks place ≡ false → excepted (start .rec) place ≡ false
     → getD mem place 0 ≡ getD (start .mem) place 0
 
--- The values are bytes.
-abbrev pub Bytes : List ℕ → Type 0
-Bytes values = (place : ℕ) → getD values place 0 < 256
+-- The value of each cell that the wish names is a byte; the others are not read.
+abbrev pub Bytes : List ℕ → List ℕ → Type 0
+Bytes marks values = (place : ℕ) → marked marks place ≡ true → getD values place 0 < 256
 
 -- Demand 3.
 abbrev pub CutRuns : Type 0
 CutRuns =
     (wish : Wish) (marks values : List ℕ) (start : State) (cut : List (List Sent)) (last : List Sent)
-    → isWish wish marks ≡ true → Bytes values → sound (start .rec) ≡ true → length (start .mem) ≡ 144
+    → isWish wish marks ≡ true → Bytes marks values → sound (start .rec) ≡ true → length (start .mem) ≡ 144
     → EachBegun (planOf wish marks values) cut → Whole (planOf wish marks values) last
     → Stands wish marks values (ran start (joined cut last))
     × NoneBusy (heard start (joined cut last))

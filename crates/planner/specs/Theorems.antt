@@ -128,7 +128,7 @@ BoardSendsPlan =
 abbrev pub PlannedRuns : Type 0
 PlannedRuns =
     (wish : Wish) (marks values out : List ℕ) (returned : Planned) (after : List ℕ)
-    → Plans (replyTo wish marks values out) out returned after → returned .answer ≡ Done → Bytes values
+    → Plans (replyTo wish marks values out) out returned after → returned .answer ≡ Done → Bytes marks values
     → (start : State) (cut : List (List Sent)) (last : List Sent) → sound (start .rec) ≡ true → length (start .mem) ≡ 144
     → EachBegun (readBack (returned .count) after) cut → Whole (readBack (returned .count) after) last
     → Stands wish marks values (ran start (joined cut last))

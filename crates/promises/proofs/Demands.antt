@@ -6,10 +6,11 @@ use Prim.Native.Nat.{ℕ}
 use lib.Dec.{ltb}
 use lib.ListN.{length}
 use Rattle.controller.proofs.Laws.Choice.{cond-elim}
-use Rattle.controller.proofs.Laws.Taken.{taken}
 use Rattle.controller.proofs.Theorems.Answers.{transfer-answers, loan-answers, reset-answers}
 use Rattle.controller.proofs.Theorems.Halves.{halves-make-whole}
+use Rattle.controller.proofs.Theorems.HalfRules.{half-rules}
 use Rattle.controller.proofs.Theorems.Rules.{data-rules, instruction-rules}
+use Rattle.controller.proofs.Theorems.Rules.{address-set-goes, clear-leaves-rest, function-moves-nothing, read-never-shifts, status-alters-nothing}
 use Rattle.controller.proofs.Theorems.Refusals.{transfer-refusals, loan-refusals, reset-refusals}
 use Rattle.controller.proofs.Theorems.Sound.{transfer-keeps-sound, reset-makes-sound, effects-fit}
 use Rattle.controller.specs.Bus.{badTransfer}
@@ -93,10 +94,19 @@ demand-1 =
 pub demand-2 : Demand2
 demand-2 =
     record {
+      answers = transfer-answers;
       instructions = instruction-rules;
       transfers = data-rules;
       halves = halves-make-whole;
-      taken = taken;
+      half-rules = half-rules;
+      named =
+          record {
+            read-never-shifts = read-never-shifts;
+            status-alters-nothing = status-alters-nothing;
+            function-moves-nothing = function-moves-nothing;
+            clear-leaves-rest = clear-leaves-rest;
+            address-set-goes = address-set-goes;
+          };
       kept = transfer-keeps-sound;
       reset = reset-makes-sound;
       effects = effects-fit;

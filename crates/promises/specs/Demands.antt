@@ -3,15 +3,11 @@
 use mathlib.Core.List.{List}
 use mathlib.Core.Path.{_≡_}
 use Prim.Native.Nat.{ℕ}
-use lib.ListN.{length}
-use mathlib.Core.Bool.{true, false}
-use Rattle.controller.specs.Bus.{badTransfer, mustWait, decided}
-use Rattle.controller.specs.Halves.{accepted}
-use Rattle.controller.specs.Record.{sound, waited}
+use Rattle.controller.specs.HalfRules.{HalfRules}
 use Rattle.controller.specs.Rules.{DataRules, HalvesMakeWhole, InstructionRules}
-use Rattle.controller.specs.declared.«record».Record.{Record}
+use Rattle.controller.specs.Rules.{AddressSetGoes, ClearLeavesRest, FunctionMovesNothing, ReadNeverShifts, StatusAltersNothing}
 use Rattle.controller.specs.Answers.{numberOf}
-use Rattle.controller.specs.Theorems.{TransferKeepsSound, ResetMakesSound, EffectsFit}
+use Rattle.controller.specs.Theorems.{TransferAnswers, TransferKeepsSound, ResetMakesSound, EffectsFit}
 use Rattle.controller.specs.Theorems.{TransferRefusals, LoanRefusals, ResetRefusals}
 use Rattle.drawing.specs.Theorems.{DrawRefusals}
 use Rattle.dots.specs.Theorems.{EachByte, LaterStay, PictureRefusals}
@@ -51,22 +47,26 @@ pub record Demand1 : Type 0 where
   pub draw : DrawRefusals
   pub c-calls : CallRefusals
 
--- A transfer is taken wherever nothing refuses it: with a sound record, a whole memory, a kind and byte in order, and no need to
--- wait, it comes to what the rules of halves and instructions say.
-abbrev pub TakenUnlessRefused : Type 0
-TakenUnlessRefused =
-    (rec : Record) (mem : List ℕ) (kind byte wait : ℕ) → sound rec ≡ true → length mem ≡ 144 → badTransfer kind byte ≡ false
-    → mustWait kind (waited wait rec) ≡ false → decided rec mem kind byte wait ≡ accepted mem kind byte (waited wait rec)
+-- What document 01 says by name of single transfers, each a line from the rules.
+pub record NamedRules : Type 0 where
+  pub read-never-shifts : ReadNeverShifts
+  pub status-alters-nothing : StatusAltersNothing
+  pub function-moves-nothing : FunctionMovesNothing
+  pub clear-leaves-rest : ClearLeavesRest
+  pub address-set-goes : AddressSetGoes
 
 -- 2. Each bus transfer answers and leaves its controller as set out in document 01: that is the promise of `transfer`, with the
--- definitions it cites, and the rules say it once more, field by field, at width 8, and at width 4 by halves. It keeps a sound
--- record sound and its effect within the memory; the dots on the glass are the picture's definition, byte by byte. A session
--- line, once written, reads back as the same transfer, and a line that was read is written out the same.
+-- definitions it cites, and here it is said once more. The answers by the table's rows; at width 8 each instruction, write and
+-- read field by field; at width 4 by halves. A sound record is kept sound, and every effect within the memory. The dots on the
+-- glass are said byte by byte. A session line, once written, reads back as the same transfer, and a line that was read is written
+-- out the same.
 pub record Demand2 : Type 0 where
+  pub answers : TransferAnswers
   pub instructions : InstructionRules
   pub transfers : DataRules
   pub halves : HalvesMakeWhole
-  pub taken : TakenUnlessRefused
+  pub half-rules : HalfRules
+  pub named : NamedRules
   pub kept : TransferKeepsSound
   pub reset : ResetMakesSound
   pub effects : EffectsFit

@@ -92,7 +92,7 @@ waited-keeps f wait rec over less =
 
 pub whole-length : (mem : List ℕ) → whole mem ≡ true → length mem ≡ 144
 unfolding whole
-whole-length mem w = eqb-true _ _ w
+whole-length mem w = omega (arith, eqb-true (length mem) _ w)
 
 -- a sound record and a whole memory are all that the rules lean on
 pub ready : (rec : Record) (mem : List ℕ) → sound rec ≡ true → whole mem ≡ true → Ready rec mem

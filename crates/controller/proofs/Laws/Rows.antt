@@ -79,7 +79,7 @@ busy-tests wait rec =
     (λ left. tests-as (λ (less : 0 < rec .busy - wait). omega arith) (λ less. omega arith) (tests-lt 0 (rec .busy - wait)))
 
 -- what the wait leaves of the half and of the width
-half-after : (wait : ℕ) (rec : Record) → waited wait rec .half ≡ rec .half
+pub half-after : (wait : ℕ) (rec : Record) → waited wait rec .half ≡ rec .half
 half-after wait rec = waited-keeps (λ (r : Record). r .half) wait rec refl (λ _. refl)
 
 pub wide-after : (wait : ℕ) (rec : Record) → waited wait rec .wide ≡ rec .wide

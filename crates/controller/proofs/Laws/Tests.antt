@@ -18,6 +18,14 @@ pub record Tests (test : Bool) (A : Type 0) : Type 0 where
 pub tests-as : {test : Bool} {A B : Type 0} → (A → B) → (B → A) → Tests test A → Tests test B
 tests-as to from t = record { yes = λ e. to (t .yes e); no = λ e b. t .no e (from b) }
 
+-- the test where it is known not to hold
+pub tests-false : {test : Bool} {A : Type 0} → Tests test A → (A → ⊥) → test ≡ false
+tests-false {test} t never = go test refl
+  where
+    go : (b : Bool) → test ≡ b → test ≡ false
+    go true is = absurd (never (t .yes is))
+    go false is = is
+
 pub tests-itself : (test : Bool) → Tests test (test ≡ true)
 tests-itself test = record { yes = λ e. e; no = λ e is. false≢true (sym e ∙ is) }
 

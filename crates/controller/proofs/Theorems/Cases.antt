@@ -32,6 +32,7 @@ use Rattle.controller.specs.Instruction.{decoded, bit}
 use Rattle.controller.specs.Record.{resetRecord, resetTime, sound, halfSound, waited, busyOver, withHalf}
 use Rattle.controller.specs.declared.sent.Sent.{Sent}
 use Rattle.controller.specs.Rules.{Comes, Wide, atWidth, beside, neighbour}
+use Rattle.controller.proofs.Laws.Rows.{bad-tests}
 use Rattle.controller.proofs.Theorems.Halves.{halves-make-whole, wide-waits}
 use Rattle.controller.proofs.Theorems.Rules.{data-rules}
 use Rattle.controller.specs.Runs.{State, Heard, decidedOf, after, toldOf, ran, heard}
@@ -63,7 +64,7 @@ write-leads n counter from next to at steps there wide rec mem byte wait later w
     go : (wide : Bool) → Waits rec mem wide Empty wait → taking wide rec mem 1 byte wait later .rec .counter ≡ next
     go true w = wrote rec w up place
     go false w =
-        ap (λ (r : Record). r .counter) (halves-make-whole rec mem 1 byte wait later w refl is-byte .alike .rec)
+        ap (λ (r : Record). r .counter) (halves-make-whole rec mem 1 byte wait later w (bad-tests 1 byte .no refl) is-byte .alike .rec)
         ∙ wrote (atWidth true rec) (wide-waits rec mem wait w) up place
 
 pub p2 : P2
@@ -90,7 +91,7 @@ answers n byte number is-byte told wide rec mem wait later w lines = go wide w
     go : (wide : Bool) → Waits rec mem wide Empty wait → numberOf (taking wide rec mem 0 byte wait later .answer) ≡ number
     go true w = answered rec w lines
     go false w =
-        ap numberOf (halves-make-whole rec mem 0 byte wait later w refl is-byte .alike .answer)
+        ap numberOf (halves-make-whole rec mem 0 byte wait later w (bad-tests 0 byte .no refl) is-byte .alike .answer)
         ∙ answered (atWidth true rec) (wide-waits rec mem wait w) lines
 
 pub p4 : P4

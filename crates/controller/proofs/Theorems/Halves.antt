@@ -11,7 +11,9 @@ use borrow.Author.Tests.{eqb-true, eqb-false, le-leb, ltb-false}
 use Rattle.controller.proofs.Laws.Halves.{high-of, whole-of, without}
 use Rattle.controller.proofs.Laws.Instruction.{decoded-elim}
 use Rattle.controller.proofs.Laws.Record.{sound-busy, sound-counter, sound-of, sound-shift}
+use Rattle.controller.proofs.Laws.Rows.{bad-tests}
 use Rattle.controller.proofs.Laws.Taken.{taken-narrow, taken-wide}
+use Rattle.controller.proofs.Laws.Tests.{tests-false}
 use Rattle.controller.proofs.Theorems.Sound.{transfer-keeps-sound}
 use Rattle.controller.specs.declared.cells.Counter.{Counter}
 use Rattle.controller.specs.declared.cells.Counter.the-variants.{Display, Pattern}
@@ -133,7 +135,7 @@ unfolding addressed
 addressed-byte mem (Cell cell) rec = refl
 addressed-byte mem Outside rec = refl
 
-executed-byte : (mem : List ℕ) (byte : ℕ) (rec : Record) → executed mem (decoded byte) rec .byte ≡ 0
+pub executed-byte : (mem : List ℕ) (byte : ℕ) (rec : Record) → executed mem (decoded byte) rec .byte ≡ 0
 unfolding executed
 executed-byte mem byte rec =
     decoded-elim (λ (i : Instruction). executed mem i rec .byte ≡ 0) byte (λ _. addressed-byte mem _ rec) (λ _. refl) (λ _ _. refl) (λ _. refl)
@@ -168,7 +170,7 @@ module _ (rec : Record) (mem : List ℕ) (wait later : ℕ) (w : Waits rec mem f
   reads = two-make rec mem 3 0 wait later w refl (omega arith) (DataRead (rec .reg)) (Read (rec .reg)) refl refl refl (λ r. refl) refl refl
 
 -- a good transfer is of kind 0 to 3, and a read has no byte
-data Good : ℕ → ℕ → Type 0 where
+pub data Good : ℕ → ℕ → Type 0 where
   instruction : (byte : ℕ) → Good 0 byte
   writing : (byte : ℕ) → Good 1 byte
   status : Good 2 0
@@ -182,7 +184,7 @@ not-both : (a b : Bool) → (a && b) ≡ false → a ≡ true → b ≡ false
 not-both true b e here = e
 not-both false b e here = absurd (false≢true here)
 
-good-is : (kind byte : ℕ) → badTransfer kind byte ≡ false → Good kind byte
+pub good-is : (kind byte : ℕ) → badTransfer kind byte ≡ false → Good kind byte
 unfolding badTransfer
 good-is kind byte good = go (eqb kind 0) (eqb kind 1) (eqb kind 2) refl refl refl
   where
@@ -205,7 +207,7 @@ good-is kind byte good = go (eqb kind 0) (eqb kind 1) (eqb kind 2) refl refl ref
         a-read 3 (omega arith) (last (eqb-false kind 0 not-0) (eqb-false kind 1 not-1) (eqb-false kind 2 not-2)) reading
 
 pub halves-make-whole : HalvesMakeWhole
-halves-make-whole rec mem kind byte wait later w good is-byte = go (good-is kind byte good) is-byte
+halves-make-whole rec mem kind byte wait later w good is-byte = go (good-is kind byte (tests-false (bad-tests kind byte) good)) is-byte
   where
     go : {k b : ℕ} → Good k b → b < 256 → Made rec mem wait later k b
     go (instruction byte) small = instructs rec mem wait later w byte small

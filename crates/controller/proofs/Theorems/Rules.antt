@@ -40,7 +40,7 @@ use Rattle.controller.specs.Execute.{addressed, carried, changed, comple
 use Rattle.controller.specs.Halves.{begun}
 use Rattle.controller.specs.Instruction.{bit, decoded}
 use Rattle.controller.specs.Record.{busyOver, waited, withShift}
-use Rattle.controller.specs.Rules.{Instructs, DoesNothing, Homes, Clears, GoesHome, SetsEntry, SetsControl, isSet, neighbour, beside, MovesCounter, ShiftsDisplay, SetsFunction, GoesTo, SetsPattern, Names, LacksCell, SetsDisplay, InstructionRules, inDisplay, WritesData, ReadsData, Addresses, ReadsStatus, Wide, DataRules, ReadNeverShifts, FunctionMovesNothing, ClearLeavesRest, AddressSetGoes, SameFunction, SameControl, SameEntry, SamePlace}
+use Rattle.controller.specs.Rules.{Instructs, DoesNothing, Homes, Clears, GoesHome, SetsEntry, SetsControl, isSet, neighbour, beside, MovesCounter, ShiftsDisplay, SetsFunction, GoesTo, SetsPattern, Names, LacksCell, SetsDisplay, InstructionRules, inDisplay, WritesData, ReadsData, Addresses, ReadsStatus, Wide, DataRules, ReadNeverShifts, StatusAltersNothing, FunctionMovesNothing, ClearLeavesRest, AddressSetGoes, SameFunction, SameControl, SameEntry, SamePlace}
 
 -- a byte's range says which row of the table it is
 module _ (byte : ℕ) where
@@ -438,14 +438,14 @@ reads-data rec mem wait w =
     })
 
 -- the counter's address, by its range
-addresses-is : (n : Bool) (counter : Counter) (address : ℕ) → Addresses n counter address → addressOf n counter ≡ address
+pub addresses-is : (n : Bool) (counter : Counter) (address : ℕ) → Addresses n counter address → addressOf n counter ≡ address
 unfolding addressOf
 addresses-is n (Display cell) address names = names-add n address cell names .1
 addresses-is n (Pattern cell) address is = sym is
 
 -- what a wait leaves as it was
 module _ (wait : ℕ) (rec : Record) where
-  waits-function : SameFunction rec (waited wait rec)
+  pub waits-function : SameFunction rec (waited wait rec)
   waits-function =
       record {
         wide = waited-keeps (λ r. r .wide) wait rec refl (λ _. refl);
@@ -453,7 +453,7 @@ module _ (wait : ℕ) (rec : Record) where
         f = waited-keeps (λ r. r .function .f) wait rec refl (λ _. refl);
       }
 
-  waits-control : SameControl rec (waited wait rec)
+  pub waits-control : SameControl rec (waited wait rec)
   waits-control =
       record {
         d = waited-keeps (λ r. r .control .d) wait rec refl (λ _. refl);
@@ -461,14 +461,14 @@ module _ (wait : ℕ) (rec : Record) where
         b = waited-keeps (λ r. r .control .b) wait rec refl (λ _. refl);
       }
 
-  waits-entry : SameEntry rec (waited wait rec)
+  pub waits-entry : SameEntry rec (waited wait rec)
   waits-entry =
       record {
         id = waited-keeps (λ r. r .entry .id) wait rec refl (λ _. refl);
         s = waited-keeps (λ r. r .entry .s) wait rec refl (λ _. refl);
       }
 
-  waits-place : SamePlace rec (waited wait rec)
+  pub waits-place : SamePlace rec (waited wait rec)
   waits-place =
       record {
         shift = waited-keeps (λ r. r .shift) wait rec refl (λ _. refl);
@@ -477,7 +477,7 @@ module _ (wait : ℕ) (rec : Record) where
         fresh = waited-keeps (λ r. r .fresh) wait rec refl (λ _. refl);
       }
 
-  waits-busy : waited wait rec .busy ≡ rec .busy - wait
+  pub waits-busy : waited wait rec .busy ≡ rec .busy - wait
   unfolding waited
   waits-busy =
       cond-elim (λ (r : Record). r .busy ≡ rec .busy - wait) (leb (rec .busy) wait) _ _
@@ -488,7 +488,7 @@ status-free : (rec : Record) → mustWait 2 rec ≡ false
 unfolding mustWait
 status-free rec = simp and-false
 
-status-byte : (n : Bool) (counter : Counter) (rec : Record) (busy address : ℕ) → rec .function .n ≡ n → rec .counter ≡ counter → rec .busy ≡ busy
+pub status-byte : (n : Bool) (counter : Counter) (rec : Record) (busy address : ℕ) → rec .function .n ≡ n → rec .counter ≡ counter → rec .busy ≡ busy
     → addressOf n counter ≡ address → statusOf rec ≡ cond (ltb 0 busy) 0x80 0 + address
 unfolding statusOf
 status-byte n counter rec busy address lines at left is = rw (left, lines, at, is)
@@ -522,6 +522,10 @@ data-rules = record { write = writes-data; read = reads-data; status = reads-sta
 
 pub read-never-shifts : ReadNeverShifts
 read-never-shifts rec mem wait w = reads-data rec mem wait w .shift
+
+pub status-alters-nothing : StatusAltersNothing
+status-alters-nothing rec mem wait w =
+    let rule = reads-status rec mem wait w in (rule .function, rule .control, rule .entry, rule .place, rule .cells)
 
 pub function-moves-nothing : FunctionMovesNothing
 function-moves-nothing rec mem byte wait w over under =

@@ -126,7 +126,7 @@ pub write-wished : (k : Scene) (Q : State → Type 0) (s : State) (byte wait tim
     → (Inv k (after s d) → Safe k Q (after s d) (inHalves time cs)) → Safe k Q s (inHalves wait (write byte ∷ cs))
 unfolding completed badTransfer narrow begun firstHalf
 write-wished k Q s byte wait time cs d mark wished does stores none =
-    in-two writing s byte k Q wait time cs d (subst (λ (b : ℕ). b < 256) (sym wished) (k .bytes (placeOf (s .rec .counter)))) does
+    in-two writing s byte k Q wait time cs d (subst (λ (b : ℕ). b < 256) (sym wished) (k .bytes (placeOf (s .rec .counter)) mark)) does
     (record { effect = Mild.keeps; half = λ high is _. inr (mark, inr (half-wished high is)) })
     (record {
       effect = subst (Mild k) (sym stores) (Mild.stores (placeOf (s .rec .counter)) byte (λ _. inr (mark, inl wished)));

@@ -16,12 +16,12 @@ use Rattle.controller.specs.declared.«record».Half.the-variants.{DataWrite}
 use Rattle.planner.specs.Demand.{AsAsked, Whole, Begun, EachBegun, joined, excepted, NoneBusy, Bytes}
 use Rattle.planner.specs.Wish.{marked}
 
--- what is fixed before the first run: the controller as found, the marks, and the values, which are bytes
+-- what is fixed before the first run: the controller as found, the marks, and the values, bytes where they are marked
 pub record Scene : Type 0 where
   pub start : State
   pub marks : List ℕ
   pub values : List ℕ
-  pub bytes : Bytes values
+  pub bytes : Bytes marks values
 
 -- on the way a cell may hold its first byte, and if marked its wished byte or the wished high half with 3h
 abbrev pub Holds : Scene → ℕ → ℕ → Type 0

@@ -29,9 +29,6 @@ returns-2 : tie.Need-returns-2
 unfolding decided
 returns-2 c = simp (c .refuse2 .ensures, sym (c .before .before .is-whole .ensures) ∙ not-true _ (c .before .if2 .taken), sym (c .before .before .before .before .is-sound .ensures) ∙ not-false _ (c .before .before .before .if1 .left))
 
-after-wait-requires : tie.Need-after-wait-requires
-after-wait-requires c κs = search needs
-
 is-bad-requires : tie.Need-is-bad-requires
 is-bad-requires c κs = search needs
 
@@ -40,17 +37,20 @@ refuse-requires-3 c κs = search needs
 
 returns-3 : tie.Need-returns-3
 unfolding decided
-returns-3 c = simp (c .refuse3 .ensures, sym (c .before .before .is-bad .ensures) ∙ c .before .if3 .taken, sym (c .before .before .before .before .before .is-whole .ensures) ∙ not-false _ (c .before .before .before .before .if2 .left), sym (c .before .before .before .before .before .before .before .is-sound .ensures) ∙ not-false _ (c .before .before .before .before .before .before .if1 .left))
+returns-3 c = simp (c .refuse3 .ensures, sym (c .before .before .is-bad .ensures) ∙ c .before .if3 .taken, sym (c .before .before .before .before .is-whole .ensures) ∙ not-false _ (c .before .before .before .if2 .left), sym (c .before .before .before .before .before .before .is-sound .ensures) ∙ not-false _ (c .before .before .before .before .before .if1 .left))
+
+after-wait-requires : tie.Need-after-wait-requires
+after-wait-requires c κs = search needs
 
 decide-later-requires : tie.Need-decide-later-requires
 decide-later-requires c κs =
     let s = sym (c .before .before .before .before .before .before .is-sound .ensures) ∙ not-false _ (c .before .before .before .before .before .if1 .left) in
     let w = sym (c .before .before .before .before .is-whole .ensures) ∙ not-false _ (c .before .before .before .if2 .left) in
-    rw (c .before .before .after-wait .ensures) (ready _ _ (waited-sound _ _ s) w)
+    rw (c .after-wait .ensures) (ready _ _ (waited-sound _ _ s) w)
 
 returns-4 : tie.Need-returns-4
 unfolding decided
-returns-4 c = simp (c .decide-later .ensures, c .before .before .before .after-wait .ensures, sym (c .before .before .is-bad .ensures) ∙ c .before .if3 .left, sym (c .before .before .before .before .before .is-whole .ensures) ∙ not-false _ (c .before .before .before .before .if2 .left), sym (c .before .before .before .before .before .before .before .is-sound .ensures) ∙ not-false _ (c .before .before .before .before .before .before .if1 .left))
+returns-4 c = simp (c .decide-later .ensures, c .before .after-wait .ensures, sym (c .before .before .before .is-bad .ensures) ∙ c .before .before .if3 .left, sym (c .before .before .before .before .before .is-whole .ensures) ∙ not-false _ (c .before .before .before .before .if2 .left), sym (c .before .before .before .before .before .before .before .is-sound .ensures) ∙ not-false _ (c .before .before .before .before .before .before .if1 .left))
 
 pub decide-spec : {M : Type 1} → statement M
 decide-spec =
@@ -62,9 +62,9 @@ decide-spec =
     is-whole-requires
     refuse-requires-2
     returns-2
-    after-wait-requires
     is-bad-requires
     refuse-requires-3
     returns-3
+    after-wait-requires
     decide-later-requires
     returns-4)
