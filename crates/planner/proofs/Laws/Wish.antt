@@ -37,8 +37,9 @@ wish-shift wish marks is =
 pub wish-cursor : (wish : Wish) (marks : List ℕ) → isWish wish marks ≡ true → wish .cursor < 80
 unfolding isWish
 wish-cursor wish marks is =
-    ltb-true (wish .cursor) 80
-    (and-left _ _ (and-right (ltb (wish .shift) (lineLength (wish .function .n))) _ (and-right (not (wish .function .n && wish .function .f)) _ is)))
+    let later = and-right (ltb (wish .shift) (lineLength (wish .function .n))) _ (and-right (not (wish .function .n && wish .function .f)) _ is) in
+    let within = ltb-true (wish .cursor) _ (and-left _ _ later) in
+    omega (arith, within)
 
 length-small : (n : Bool) → lineLength n ≤ 80
 length-small false = omega arith
