@@ -12,7 +12,7 @@ use Rattle.controller.specs.declared.«record».Function.{Function}
 use Rattle.controller.specs.declared.«record».Record.{Record}
 use Rattle.dots.specs.declared.geometry.Shown.the-variants.{Cell, Undriven}
 use Rattle.dots.specs.declared.geometry.Size.{Size}
-use Rattle.dots.specs.Geometry.{ShownWithin, cellAt, cellIn, height, tallest}
+use Rattle.dots.specs.Geometry.{ShownWithin, cellIn, height, tallest}
 use Rattle.dots.specs.Picture.{pictureByte, dotsAt}
 
 -- In a grid of rows of this width, place row * width + column stands in that row and that column.
@@ -37,17 +37,13 @@ unfolding height
 height-most function = omega arith
 
 -- What a position shows is a display cell, where the driven lines have no more than 80 cells together.
-in-within : (driven length shift line position : ℕ) → 0 < length → driven * length ≤ 80 → ShownWithin (cellIn driven length shift line position)
+pub in-within : (driven length shift line position : ℕ) → 0 < length → driven * length ≤ 80 → ShownWithin (cellIn driven length shift line position)
 unfolding cellIn
 in-within driven length shift line position some few = go (ltb line driven) refl
   where
     go : (b : Bool) → ltb line driven ≡ b → ShownWithin (cond b (Cell (line * length + (position + shift) % length)) Undriven)
     go true e = omega (arith, row-ends length line driven (ltb-true line driven e), mod-lt (position + shift) some)
     go false e = tt
-
-pub cell-within : (n : Bool) (shift line position : ℕ) → ShownWithin (cellAt n shift line position)
-cell-within true shift line position = in-within 2 40 shift line position (omega arith) (omega arith)
-cell-within false shift line position = in-within 1 80 shift line position (omega arith) (omega arith)
 
 -- The dots at a column of row `at` of the glass, counted from its top, are the byte at that place of the output.
 pub dots-are-byte : (shapes : List ℕ) (rec : Record) (mem : List ℕ) (lit : Bool) (size : Size) (at column rows : ℕ) → rows ≡ height (rec .function) → column < size .columns

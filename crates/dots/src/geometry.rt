@@ -1,7 +1,7 @@
 // The size of a picture, and the display cell that each of its positions shows. Lines, rows and columns count from 0.
 ghost use mathlib.Core.Path.{_≡_};
 ghost use Prim.Native.Nat.{_≤_, _<_};
-ghost use Rattle.dots.specs.Geometry.{cellAt, cellIn, fitsGlass, isShownIn, pictureLength};
+ghost use Rattle.dots.specs.Geometry.{ShownWithin, cellAt, cellIn, fitsGlass, isShownIn, pictureLength};
 ghost use Rattle.dots.specs.Promises.{IsShownPromise, RowsOfPromise};
 use controller::Function;
 
@@ -57,7 +57,7 @@ fn cell_in(driven: usize, length: usize, shift: usize, line: usize, position: us
 // The cell that a position shows: N=1 drives two lines of 40 cells, N=0 one line of 80.
 pub fn cell_at(n: bool, shift: usize, line: usize, position: usize) -> Shown
     requires { ⌜ (shift < 80) × (position < 40) ⌝ }
-    ensures { λ r. ⌜ r ≡ cellAt n shift line position ⌝ }
+    ensures { λ r. ⌜ (r ≡ cellAt n shift line position) × (ShownWithin r) ⌝ }
 {
     if n {
         return cell_in(2, 40, shift, line, position);

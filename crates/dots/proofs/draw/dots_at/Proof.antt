@@ -2,7 +2,6 @@
 -- Assumes nothing.
 use Rattle.dots.specs.Picture.{dotsAt}
 use borrow.Author.Needs.{needs}
-use Rattle.dots.proofs.Places.{cell-within}
 use Rattle.dots.proofs.draw.dots_at.Statement.{statement}
 use Rattle.dots.proofs.draw.dots_at.Tie as tie
 
@@ -15,15 +14,11 @@ cell-at-requires c κs = search needs
 shown-row-requires : tie.Need-shown-row-requires
 shown-row-requires c κs =
     let start = c .before .before .before .before .before in
-    let rec = start .args .rec in (
-      start .pre .0,
-      start .pre .1,
-      rw (c .cell-at .ensures) (cell-within (rec .function .n) (rec .shift) (start .args .line) (start .args .column)),
-    )
+    (start .pre .0, start .pre .1, c .cell-at .ensures .1)
 
 returns : tie.Need-returns
 unfolding dotsAt
-returns c = simp (c .shown-row .ensures, c .before .cell-at .ensures, c .before .before .before .if1 .taken)
+returns c = simp (c .shown-row .ensures, c .before .cell-at .ensures .0, c .before .before .before .if1 .taken)
 
 returns-2 : tie.Need-returns-2
 unfolding dotsAt
