@@ -1,6 +1,6 @@
 -- The rules of the fixed table. Two tests are computed over the whole table, and laws turn them into the rule at each entry.
 -- Assumes nothing.
-use mathlib.Core.Bool.{Bool, true, false, not, _&&_, _||_}
+use mathlib.Core.Bool.{Bool, true, false, cond, not, _&&_, _||_}
 use mathlib.Core.List.{List, [], _∷_}
 use mathlib.Core.Path.{_≡_, refl, sym, ap, _∙_}
 use Prim.Native.Nat.{ℕ, zero, suc, _+_, _*_, _-_, _%_, _≤_, _<_}
@@ -11,7 +11,8 @@ use lib.Dec.{ltb, leb, eqb, lit<}
 use lib.ListN.{length, getD, take, drop, List·getD-eq-default, length-take, length-drop}
 use lib.Seq.{drop-drop, ext-getD, getD-drop, getD-take}
 use Rattle.dots.specs.Font.{font, shapeRows, tableLength, tableRow}
-use Rattle.dots.specs.Theorems.{Alike, Blank, TableRows, TableShapes}
+use Rattle.dots.specs.Picture.{patternRow, rowOf}
+use Rattle.dots.specs.Theorems.{Alike, Blank, TableRows, TableShapes, TableShows}
 use Rattle.controller.proofs.Laws.Choice.{and-left, and-right}
 use Rattle.dots.proofs.Logic.{or-right}
 
@@ -35,6 +36,10 @@ rightRow place row = ltb row 32 && ((not (eqb (place % shapeRows + 1) shapeRows)
 pub font-length : length font ≡ tableLength
 unfolding font
 font-length = refl
+
+pub table-shows : TableShows
+unfolding rowOf
+table-shows = record { shown = λ mem code row h. ap (λ (b : Bool). cond b (patternRow mem code row) (tableRow font code row)) (le-ltb code 0x10 h); long = font-length }
 
 every-row-right : everywhere rightRow 0 font ≡ true
 unfolding everywhere rightRow font

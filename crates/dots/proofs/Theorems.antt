@@ -1,4 +1,4 @@
--- The theorems of specs/Theorems.antt, but for the two of the table, which stand in Table.antt.
+-- The theorems of specs/Theorems.antt, but for those of the table, which stand in Table.antt.
 -- Assumes nothing.
 use mathlib.Core.Bool.{Bool, true, false, cond, not}
 use mathlib.Core.List.{List}
@@ -6,9 +6,11 @@ use mathlib.Core.Path.{_≡_, refl, sym, ap, fun-ext, _∙_}
 use Prim.Native.Nat.{ℕ, _+_, _-_, _*_, _/_, _%_, _≤_, _<_}
 use native.Mathlib.Nat.{add-mul, add-mul-mod-self-right, add-zero, div-add-mod', mod-add-mod, mod-eq-of-lt, mod-lt, one-mul}
 use native.Mathlib.Omega.{arith}
-use borrow.Author.Tests.{eq-eqb, lt-ltb, ltb-true, ne-eqb}
-use lib.Dec.{ltb, lit<}
+use borrow.Author.Tests.{eq-eqb, eqb-false, eqb-true, lt-ltb, ltb-true, ne-eqb}
+use lib.Dec.{eqb, ltb, lit<}
 use lib.ListN.{length, getD}
+use Rattle.controller.specs.declared.cells.Counter.{Counter}
+use Rattle.controller.specs.declared.cells.Counter.the-variants.{Display, Pattern}
 use Rattle.controller.specs.declared.«record».Record.{Record}
 use Rattle.controller.specs.Bus.{whole}
 use Rattle.controller.specs.Cells.{lineLength}
@@ -22,9 +24,9 @@ use Rattle.dots.specs.declared.geometry.Shown.{Shown}
 use Rattle.dots.specs.declared.geometry.Shown.the-variants.{Cell, Undriven}
 use Rattle.dots.specs.declared.geometry.Size.{Size}
 use Rattle.dots.specs.Font.{font}
-use Rattle.dots.specs.Geometry.{cellIn, drivenLines, fitsGlass, height, isShownIn, pictureLength}
-use Rattle.dots.specs.Picture.{answerFor, answered, pictureByte, cellRow, covered, dotsAt, cursorSets, output, outputLeft, painted, rowOf, shownRow}
-use Rattle.dots.specs.Theorems.{CursorShows, Draws, EachByte, FAltersNothing, FiveDots, LaterStay, OffDark, OnGlass, OnePicture, OnePosition, PictureAnswers, PictureRefusals, SecondLineDark, OffGlass, rowsFor}
+use Rattle.dots.specs.Geometry.{cellAt, cellIn, drivenLines, fitsGlass, height, isShownIn, pictureLength}
+use Rattle.dots.specs.Picture.{answerFor, answered, pictureByte, cellRow, covered, dotsAt, cursorSets, isOn, output, outputLeft, painted, rowOf, shownRow}
+use Rattle.dots.specs.Theorems.{CursorShows, Draws, EachByte, EightRows, FAltersNothing, FiveDots, LaterStay, LineShows, LowFive, OffDark, OnGlass, OnePicture, OnePosition, PatternShows, PictureAnswers, PictureRefusals, PositionDots, SecondLineDark, OffGlass, nextCell, rowsFor}
 use Rattle.dots.proofs.Answers.{glass-columns, passed}
 use Rattle.dots.proofs.Logic.{and-false, either, of-either, or-true}
 use Rattle.dots.proofs.Painting.{painted-at, painted-length, painted-past}
@@ -60,6 +62,10 @@ each-byte rec mem size lit out line row column d hl hr hc =
     byte rec mem size lit out ((line * h + row) * size .columns + column) d (omega (arith, row-ends (size .columns) (line * h + row) (size .lines * h) within))
     ∙ sym (dots-are-byte font rec mem lit size (line * h + row) column h refl hc)
     ∙ rw (row-of-place h line row hr, column-of-place h line row hr) refl
+
+pub eight-rows : EightRows
+unfolding height
+eight-rows function = refl
 
 pub later-stay : LaterStay
 unfolding output
@@ -99,6 +105,56 @@ shown-at driven length shift line column cell = go (ltb line driven)
         → (b ≡ true) × (line * length + (column + shift) % length ≡ cell)
     go true e = (refl, cc)
     go false e = let z : _≡_ {A = ℕ} 0 1 = cc in absurd (omega arith)
+
+-- One position on: the next cell of a line of 80, and of either line of 40.
+next-of-80 : (line place cell : ℕ) → line < 1 → line * 80 + place % 80 ≡ cell → line * 80 + (place + 1) % 80 ≡ nextCell false cell
+unfolding nextCell
+next-of-80 line place cell h e = go (eqb cell 79) refl
+  where
+    go : (b : Bool) → eqb cell 79 ≡ b → line * 80 + (place + 1) % 80 ≡ cond b 0 (cell + 1)
+    go true is = omega (arith, eqb-true cell 79 is)
+    go false is = let not-last = eqb-false cell 79 is in omega arith
+
+next-of-40 : (line place cell : ℕ) → line < 2 → line * 40 + place % 40 ≡ cell → line * 40 + (place + 1) % 40 ≡ nextCell true cell
+unfolding nextCell
+next-of-40 line place cell h e = go (eqb cell 39) (eqb cell 79) refl refl
+  where
+    go : (b d : Bool) → eqb cell 39 ≡ b → eqb cell 79 ≡ d → line * 40 + (place + 1) % 40 ≡ cond b 0 (cond d 40 (cell + 1))
+    go true _ is is′ = omega (arith, eqb-true cell 39 is)
+    go false true is is′ = omega (arith, eqb-true cell 79 is′)
+    go false false is is′ = let not-39 = eqb-false cell 39 is in let not-79 = eqb-false cell 79 is′ in omega arith
+
+next-shown : (n : Bool) (shift line position cell : ℕ) → cellAt n shift line position ≡ Cell cell → cellAt n shift line (position + 1) ≡ Cell (nextCell n cell)
+unfolding cellIn
+next-shown true shift line position cell e =
+    let at = shown-at 2 40 shift line position cell e in
+    let place : position + 1 + shift ≡ position + shift + 1 = omega arith in
+    rw (at .0, place) (ap Cell (next-of-40 line (position + shift) cell (ltb-true line 2 (at .0)) (at .1)))
+next-shown false shift line position cell e =
+    let at = shown-at 1 80 shift line position cell e in
+    let place : position + 1 + shift ≡ position + shift + 1 = omega arith in
+    rw (at .0, place) (ap Cell (next-of-80 line (position + shift) cell (ltb-true line 1 (at .0)) (at .1)))
+
+first-shown : (n : Bool) → cellAt n 0 0 0 ≡ Cell 0
+unfolding cellIn
+first-shown true = refl
+first-shown false = refl
+
+pub line-shows : LineShows
+unfolding cellIn
+line-shows =
+    record {
+      first = first-shown;
+      second = refl;
+      next = next-shown;
+      shifted = λ n shift line position. let place : position + (shift + 1) ≡ position + 1 + shift = omega arith in rw place refl;
+    }
+
+pub position-dots : PositionDots
+unfolding dotsAt shownRow
+position-dots shapes rec mem lit line row column cell d shows =
+    ap (λ (b : Bool). cond b (shownRow shapes rec mem lit row (cellAt (rec .function .n) (rec .shift) line column)) 0) d
+    ∙ ap (shownRow shapes rec mem lit row) shows
 
 -- At shift 0, position p of a line shows its cell p.
 in-place : (driven length cell line position : ℕ) → position < length → cellIn driven length 0 line position ≡ Cell cell → line * length + position ≡ cell
@@ -149,7 +205,7 @@ module _ (driven length shift : ℕ) (size : Size) (cell : ℕ) (some : 0 < leng
       let row : cell / length ≡ line = rw (sym (at .1)) (row-of-place length line _ inside) in
       let rest : cell % length ≡ (column + shift) % length = rw (sym (at .1)) (column-of-place length line _ inside) in
       let back : (cell % length + (length - shift % length)) % length ≡ column = rw (rest, mod-add-mod) (turned-back length shift column within) in
-      rw (row, back, at .0, lt-ltb line _ l, lt-ltb column _ k) refl
+      simp (row, back, at .0, lt-ltb line _ l, lt-ltb column _ k)
 
 pub on-glass : OnGlass
 unfolding isShownIn
@@ -169,6 +225,28 @@ on-glass n shift size cell fits =
           showing (drivenLines n) length shift size cell (omega arith) (p .line) (p .column) (omega arith) (p .on-line) k (p .shows),
     )
 
+-- The pattern of a code below 8, at its own place.
+pattern-of : (shapes mem : List ℕ) (code row : ℕ) → code < 8 → rowOf shapes mem code row ≡ getD mem (80 + (8 * code + row)) 0 % 32
+unfolding rowOf
+pattern-of shapes mem code row h = rw (lt-ltb code 0x10 (omega arith)) (ap (λ (k : ℕ). getD mem k 0 % 32) (omega arith))
+
+low-five : (byte low : ℕ) → low ≡ byte % 32 → LowFive byte low
+low-five byte low e = record { below = rw e (mod-lt byte (lit< tt)); times = byte / 32; more = rw e (sym (div-add-mod' byte 32)) }
+
+pub pattern-shows : PatternShows
+unfolding rowOf
+pattern-shows =
+    record {
+      bits = λ shapes mem code row h. low-five _ _ (pattern-of shapes mem code row h);
+      again = λ shapes mem code row h.
+          rw (lt-ltb code 0x10 (omega arith), lt-ltb (code + 8) 0x10 (omega arith)) (ap (λ (k : ℕ). getD mem k 0 % 32) (omega arith));
+    }
+
+-- A counter that is not on a display cell is off it.
+is-off : (counter : Counter) (cell : ℕ) → (counter ≡ Display cell → ⊥) → isOn counter cell ≡ false
+is-off (Display at) cell off = ne-eqb at cell (λ e. off (ap Display e))
+is-off (Pattern at) cell off = refl
+
 pub cursor-shows : CursorShows
 unfolding cellRow covered cursorSets
 cursor-shows shapes rec mem cell =
@@ -178,7 +256,7 @@ cursor-shows shapes rec mem cell =
       blinking = λ on b row. simp (on, same, b, or-true);
       higher = λ lit b row h. simp (b, ne-eqb (row + 1) (height (rec .function)) (λ e. omega arith), and-false);
       without = λ lit b c row. simp (b, c, and-false);
-      elsewhere = λ lit off row. simp off;
+      elsewhere = λ lit off row. simp (is-off (rec .counter) cell off);
     }
 
 -- F is read nowhere.

@@ -1,15 +1,18 @@
--- What is proved of the definitions, in the order of document 01, "The dots"; then the rules of the answers. Each theorem is
--- a type here, and its proof stands in proofs/Theorems.antt or, of the table, in proofs/Table.antt.
+-- What is proved of the definitions, in the order of document 01, "The dots"; then the rules of the answers. A rule is said in
+-- another way than its definition says it, by steps, ranges or plain numbers, so that a theorem fails where a definition is
+-- wrong. Each theorem is a type here, and its proof stands in proofs/Theorems.antt or, of the table, in proofs/Table.antt.
 -- Assumes nothing.
-use mathlib.Core.Bool.{Bool, true, false, _&&_}
+use mathlib.Core.Bool.{Bool, true, false, cond, _&&_}
 use mathlib.Core.List.{List, [], _∷_}
 use mathlib.Core.Logic.{_⊎_, _↔_}
 use mathlib.Core.Path.{_≡_}
 use Prim.Native.Nat.{ℕ, _+_, _*_, _%_, _≤_, _<_}
+use lib.Dec.{eqb}
 use lib.ListN.{length, getD}
 use Rattle.controller.specs.declared.cells.Counter.the-variants.{Display}
 use Rattle.controller.specs.declared.answers.Answer.{Answer}
 use Rattle.controller.specs.declared.answers.Answer.the-variants.{Done}
+use Rattle.controller.specs.declared.«record».Function.{Function}
 use Rattle.controller.specs.declared.«record».Record.{Record}
 use Rattle.controller.specs.Answers.{isRefusal, numberOf, Row, Tells}
 use Rattle.controller.specs.Record.{withFunction}
@@ -18,7 +21,7 @@ use Rattle.dots.specs.declared.geometry.Shown.the-variants.{Cell}
 use Rattle.dots.specs.declared.geometry.Size.{Size}
 use Rattle.dots.specs.Font.{font, shapeRows, tableLength, tableRow}
 use Rattle.dots.specs.Geometry.{fitsGlass, height, pictureLength, cellAt, isShown}
-use Rattle.dots.specs.Picture.{Pictured, answered, cellRow, dotsAt, isOn, output, rowOf}
+use Rattle.dots.specs.Picture.{Pictured, answered, cellRow, dotsAt, output, rowOf}
 
 -- This call is answered 0.
 abbrev pub Draws : Record → List ℕ → Size → List ℕ → Type 0
@@ -31,6 +34,10 @@ EachByte =
     → Draws rec mem size out → line < size .lines → row < height (rec .function) → column < size .columns
     → getD (output rec mem size lit out) ((line * height (rec .function) + row) * size .columns + column) 0
     ≡ dotsAt font rec mem lit line row column
+
+-- That is eight rows to a line, whatever N and F are.
+abbrev pub EightRows : Type 0
+EightRows = (function : Function) → height function ≡ 8
 
 -- Five dots and no more: every byte of a picture is below 32.
 abbrev pub FiveDots : Type 0
@@ -45,6 +52,29 @@ LaterStay =
     (rec : Record) (mem : List ℕ) (size : Size) (lit : Bool) (out : List ℕ)
     → ((at : ℕ) → pictureLength (rec .function) size ≤ at → getD (output rec mem size lit out) at 0 ≡ getD out at 0)
     × (length (output rec mem size lit out) ≡ length out)
+
+-- The cell behind this one in its line, and behind the line's last cell its first. With N=0 line 1 has cells 0 to 79; with N=1
+-- line 1 has cells 0 to 39 and line 2 cells 40 to 79.
+unfoldable pub nextCell : Bool → ℕ → ℕ
+nextCell false cell = cond (eqb cell 79) 0 (cell + 1)
+nextCell true cell = cond (eqb cell 39) 0 (cond (eqb cell 79) 40 (cell + 1))
+
+-- The cell of each position, by steps. At shift 0 line 1 begins with cell 0 and, with N=1, line 2 with cell 40. The next position
+-- shows the next cell of the line, and one more shift shows at each position what the next one showed.
+pub record LineShows : Type 0 where
+  pub first : (n : Bool) → cellAt n 0 0 0 ≡ Cell 0
+  pub second : cellAt true 0 1 0 ≡ Cell 40
+  pub next :
+      (n : Bool) (shift line position cell : ℕ)
+      → cellAt n shift line position ≡ Cell cell → cellAt n shift line (position + 1) ≡ Cell (nextCell n cell)
+  pub shifted : (n : Bool) (shift line position : ℕ) → cellAt n (shift + 1) line position ≡ cellAt n shift line (position + 1)
+
+-- With D=1 a position that shows a cell has the dots of that cell.
+abbrev pub PositionDots : Type 0
+PositionDots =
+    (shapes : List ℕ) (rec : Record) (mem : List ℕ) (lit : Bool) (line row column cell : ℕ)
+    → rec .control .d ≡ true → cellAt (rec .function .n) (rec .shift) line column ≡ Cell cell
+    → dotsAt shapes rec mem lit line row column ≡ cellRow shapes rec mem lit row cell
 
 -- At shift 0 no cell shows at two positions: for every size in range and both N.
 abbrev pub OnePosition : Type 0
@@ -73,6 +103,24 @@ abbrev pub SecondLineDark : Type 0
 SecondLineDark =
     (shapes : List ℕ) (rec : Record) (mem : List ℕ) (lit : Bool) (row column : ℕ)
     → rec .function .n ≡ false → dotsAt shapes rec mem lit 1 row column ≡ 0
+
+-- The low five bits of a byte: below 32, and the byte is a multiple of 32 more.
+pub record LowFive (byte low : ℕ) : Type 0 where
+  pub below : low < 32
+  pub times : ℕ
+  pub more : byte ≡ times * 32 + low
+
+-- Codes 00h to 07h show patterns 0 to 7, low five bits: pattern cell 8 x code + row, behind the 80 display cells. Codes 08h to
+-- 0Fh show the same patterns again.
+pub record PatternShows : Type 0 where
+  pub bits :
+      (shapes mem : List ℕ) (code row : ℕ) → code < 8 → LowFive (getD mem (80 + (8 * code + row)) 0) (rowOf shapes mem code row)
+  pub again : (shapes mem : List ℕ) (code row : ℕ) → code < 8 → rowOf shapes mem (code + 8) row ≡ rowOf shapes mem code row
+
+-- Other codes come from the table, whatever the memory is, eight rows to a code. It has 256 x 8 = 2,048 rows.
+pub record TableShows : Type 0 where
+  pub shown : (mem : List ℕ) (code row : ℕ) → 0x10 ≤ code → rowOf font mem code row ≡ getD font (code * 8 + row) 0
+  pub long : length font ≡ 2048
 
 -- All rows of a code are zero in the table.
 abbrev pub Blank : ℕ → Type 0
@@ -117,7 +165,7 @@ pub record Cursor (shapes : List ℕ) (rec : Record) (mem : List ℕ) (cell : �
       (lit : Bool) → (rec .control .b && lit) ≡ false → rec .control .c ≡ false → (row : ℕ)
       → cellRow shapes rec mem lit row cell ≡ rowOf shapes mem (getD mem cell 0) row
   pub elsewhere :
-      (lit : Bool) → isOn (rec .counter) cell ≡ false → (row : ℕ)
+      (lit : Bool) → (rec .counter ≡ Display cell → ⊥) → (row : ℕ)
       → cellRow shapes rec mem lit row cell ≡ rowOf shapes mem (getD mem cell 0) row
 
 -- So it is for every table, record, memory and cell.
