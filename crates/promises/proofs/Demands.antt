@@ -16,7 +16,9 @@ use Rattle.controller.proofs.Theorems.Sound.{transfer-keeps-sound, reset-makes-
 use Rattle.controller.specs.Bus.{badTransfer}
 use Rattle.controller.specs.Answers.{numberOf}
 use Rattle.drawing.proofs.Theorems.{draw-answers, draw-refusals}
-use Rattle.dots.proofs.Theorems.{each-byte, later-stay, picture-answers, picture-refusals}
+use Rattle.dots.proofs.Table.{table-rows, table-shapes, table-shows}
+use Rattle.dots.proofs.Theorems.{cursor-shows, each-byte, eight-rows, f-alters-nothing, five-dots, later-stay, line-shows, off-dark}
+use Rattle.dots.proofs.Theorems.{pattern-shows, picture-answers, picture-refusals, position-dots, second-line-dark}
 use Rattle.interface.proofs.Theorems.Answers.{call-answers}
 use Rattle.interface.proofs.Theorems.Refusals.{call-refusals}
 use Rattle.lines.proofs.Theorems.One.{one-reading, writer-answers, text-answers}
@@ -31,7 +33,7 @@ use Rattle.player.proofs.Theorems.One.{play-answers}
 use Rattle.player.specs.Report.{report, reportSize, playing}
 use Rattle.promises.proofs.Determined.{each-determined}
 use Rattle.promises.specs.Answers.{EachAnswer}
-use Rattle.promises.specs.Demands.{LeavesBuffer, Demand1, Demand2, Demand3}
+use Rattle.promises.specs.Demands.{LeavesBuffer, Demand1, DotRules, Demand2, Demand3}
 
 pub each-answer : EachAnswer
 each-answer =
@@ -91,6 +93,25 @@ demand-1 =
       c-calls = call-refusals;
     }
 
+dot-rules : DotRules
+dot-rules =
+    record {
+      bytes = each-byte;
+      rows = eight-rows;
+      five = five-dots;
+      later = later-stay;
+      lines = line-shows;
+      positions = position-dots;
+      second-line = second-line-dark;
+      patterns = pattern-shows;
+      table = table-shows;
+      table-rows = table-rows;
+      shapes = table-shapes;
+      f = f-alters-nothing;
+      cursor = cursor-shows;
+      off = off-dark;
+    }
+
 pub demand-2 : Demand2
 demand-2 =
     record {
@@ -110,8 +131,7 @@ demand-2 =
       kept = transfer-keeps-sound;
       reset = reset-makes-sound;
       effects = effects-fit;
-      dots = each-byte;
-      later = later-stay;
+      dots = dot-rules;
       written = written-reads-back;
       buffer = buffer-reads-back;
       read = read-writes-back;

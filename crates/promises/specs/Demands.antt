@@ -10,7 +10,8 @@ use Rattle.controller.specs.Answers.{numberOf}
 use Rattle.controller.specs.Theorems.{TransferAnswers, TransferKeepsSound, ResetMakesSound, EffectsFit}
 use Rattle.controller.specs.Theorems.{TransferRefusals, LoanRefusals, ResetRefusals}
 use Rattle.drawing.specs.Theorems.{DrawRefusals}
-use Rattle.dots.specs.Theorems.{EachByte, LaterStay, PictureRefusals}
+use Rattle.dots.specs.Theorems.{CursorShows, EachByte, EightRows, FAltersNothing, FiveDots, LaterStay, LineShows, OffDark}
+use Rattle.dots.specs.Theorems.{PatternShows, PictureRefusals, PositionDots, SecondLineDark, TableRows, TableShapes, TableShows}
 use Rattle.interface.specs.Theorems.{CallRefusals}
 use Rattle.lines.specs.Theorems.{BufferReadsBack, WrittenReadsBack, ReadWritesBack, OneReading}
 use Rattle.lines.specs.Writing.{Writing, Writes, wanting, lineWriting}
@@ -55,10 +56,27 @@ pub record NamedRules : Type 0 where
   pub clear-leaves-rest : ClearLeavesRest
   pub address-set-goes : AddressSetGoes
 
+-- The dots on the glass: the place of each byte, the cell of each position, and the row that a code, the cursor or D gives.
+pub record DotRules : Type 0 where
+  pub bytes : EachByte
+  pub rows : EightRows
+  pub five : FiveDots
+  pub later : LaterStay
+  pub lines : LineShows
+  pub positions : PositionDots
+  pub second-line : SecondLineDark
+  pub patterns : PatternShows
+  pub table : TableShows
+  pub table-rows : TableRows
+  pub shapes : TableShapes
+  pub f : FAltersNothing
+  pub cursor : CursorShows
+  pub off : OffDark
+
 -- 2. Each bus transfer answers and leaves its controller as set out in document 01: that is the promise of `transfer`, with the
 -- definitions it cites, and here it is said once more. The answers by the table's rows; at width 8 each instruction, write and
 -- read field by field; at width 4 by halves. A sound record is kept sound, and every effect within the memory. The dots on the
--- glass are said byte by byte. A session line, once written, reads back as the same transfer, and a line that was read is written
+-- glass are said rule by rule. A session line, once written, reads back as the same transfer, and a line that was read is written
 -- out the same.
 pub record Demand2 : Type 0 where
   pub answers : TransferAnswers
@@ -70,8 +88,7 @@ pub record Demand2 : Type 0 where
   pub kept : TransferKeepsSound
   pub reset : ResetMakesSound
   pub effects : EffectsFit
-  pub dots : EachByte
-  pub later : LaterStay
+  pub dots : DotRules
   pub written : WrittenReadsBack
   pub buffer : BufferReadsBack
   pub read : ReadWritesBack
