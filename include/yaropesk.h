@@ -1,55 +1,160 @@
-/* Yaropesk: a proved bench for HD44780-type character displays, for programs in C.
+/* Yaropesk: a proved bench for HD44780-type character displays, for programs in C and C++.
+ * The library is for x86-64 alone. Times are whole microseconds.
  *
- * Every function takes any input, and returns the answer's number plus 256 times a byte, a count or a length: 0 done,
- * 1 unsound record, 2 memory, marks or values not 144 bytes, 3 bad transfer, 4 busy, 5 first half, 6 no cell, 7 stale
- * read, 8 crossed halves, 9 counter off its cells, 10 bad size, 11 output too short, 12 bad line, 13 not a wish. A refused
- * call leaves all that it was lent as found, but for a transfer that is answered 4 or 6, which changes the record alone.
- * A slice is a pointer, which is not null, and the count of bytes behind it; slices of one call do not overlap where one
- * of them is written.
+ * Calls. Every call takes any numbers and lengths. Bytes are lent as a pointer, which is not null, and the count of bytes
+ * behind it; what a call writes overlaps nothing else that it is lent. Each call returns one number, the answer plus 256
+ * times a value: a byte, a count or a length. YAROPESK_ANSWER and YAROPESK_VALUE take it apart. Where several answers would
+ * fit, the first of them is given, in the order that stands at the call.
  *
- * A record is 24 bytes: 0 width (8 or 4), 1 N, 2 F, 3 D, 4 C, 5 B, 6 I/D, 7 S, 8 shift, 9 counter's memory (0 display,
- * 1 pattern), 10 counter's cell, 11 register, 12 fresh (1) or stale (0), 13 half (0 none, 1 instruction write, 2 data
- * write, 3 status read, 4 data read), 14 half's value (0 where none), 15 zero, 16 to 19 busy in microseconds,
- * little-endian, 20 to 23 zero. Any other length or value is an unsound record.
- * A memory is 144 bytes: display cells 0 to 79, then pattern cells 0 to 63.
- * A wish is 16 bytes: 0 N, 1 F, 2 D, 3 C, 4 B, 5 I/D, 6 S, 7 shift (below 80, with N below 40), 8 cursor's display cell, 9
- * to 15 zero. Any other length or value, and N with F, is answered 13.
- */
+ * Refusals. The answers 0, 5, 7 and 8 are no refusals; all others are. A refused call returns the value 0 and leaves all
+ * that it was lent as found, but for a transfer answered 4 or 6, which changes the record: after 4 busy is less by the
+ * wait; after 6 the wait is counted and the half is gone. Output bytes past those written stay as they were. */
 #ifndef YAROPESK_H
 #define YAROPESK_H
 
 #include <stddef.h>
 #include <stdint.h>
 
+#define YAROPESK_ANSWER(returned) ((returned) % 256)
+#define YAROPESK_VALUE(returned) ((returned) / 256)
+
+/* Answers. */
+#define YAROPESK_DONE 0           /* no refusal */
+#define YAROPESK_UNSOUND 1        /* the record is unsound */
+#define YAROPESK_NOT_WHOLE 2      /* the memory, the marks or the values are not 144 bytes */
+#define YAROPESK_BAD_TRANSFER 3   /* a kind above 3, or a read with a byte other than 0 */
+#define YAROPESK_BUSY 4           /* the transfer came too early and is lost */
+#define YAROPESK_FIRST_HALF 5     /* no refusal: the first half is taken and waits for the second */
+#define YAROPESK_NO_CELL 6        /* a display address without a cell */
+#define YAROPESK_STALE_READ 7     /* no refusal: a data read of a stale register, done */
+#define YAROPESK_CROSSED_HALVES 8 /* no refusal: done, the second half was of another kind than the first */
+#define YAROPESK_COUNTER_OFF 9    /* the counter is on no cell; never given, since such a record is answered 1 before */
+#define YAROPESK_BAD_SIZE 10      /* columns or lines out of range */
+#define YAROPESK_OUTPUT_SHORT 11  /* the output is too short */
+#define YAROPESK_BAD_LINE 12      /* no session line */
+#define YAROPESK_NOT_WISH 13      /* the wish or a mark is none */
+
+/* Sizes in bytes. */
+#define YAROPESK_RECORD_SIZE 24
+#define YAROPESK_MEMORY_SIZE 144  /* marks and values too: a byte for each cell */
+#define YAROPESK_WISH_SIZE 16
+#define YAROPESK_TRANSFER_SIZE 6
+#define YAROPESK_PLAN_SIZE 2808   /* the longest plan, 468 transfers */
+#define YAROPESK_LINE_SIZE 16     /* the longest session line */
+#define YAROPESK_PICTURE_SIZE 640 /* the largest picture, 2 lines of 8 rows of 40 columns */
+
+/* A memory: display cells 0 to 79, then pattern cells 0 to 63.
+ * With N=0 the display cells are one line, and cell c has the address c. With N=1 cells 0 to 39 are line 1, addresses 00h
+ * to 27h, and cells 40 to 79 are line 2, addresses 40h to 67h. */
+#define YAROPESK_LINE_2_START 40  /* where line 2 begins, with N=1 */
+#define YAROPESK_PATTERN_START 80 /* where pattern cell 0 stands */
+
+/* A record: where each byte stands, and what it holds in a sound record. Any other length or value is unsound.
+ * A half waits only at width 4, and only with busy 0, unless it is a status read's. */
+#define YAROPESK_RECORD_WIDTH 0          /* 8 or 4 */
+#define YAROPESK_RECORD_N 1              /* 0 or 1, as are F to S: 1 for two lines */
+#define YAROPESK_RECORD_F 2              /* 1 for the tall font; it does not alter the picture */
+#define YAROPESK_RECORD_D 3              /* 1 for display on */
+#define YAROPESK_RECORD_C 4              /* 1 for a cursor */
+#define YAROPESK_RECORD_B 5              /* 1 for blinking */
+#define YAROPESK_RECORD_ID 6             /* I/D: data writes and reads move the counter up (1) or down (0) */
+#define YAROPESK_RECORD_S 7              /* 1: the shift moves with each data write to the display cells */
+#define YAROPESK_RECORD_SHIFT 8          /* 0 to 79 */
+#define YAROPESK_RECORD_COUNTER_MEMORY 9 /* one of the two below */
+#define YAROPESK_RECORD_COUNTER_CELL 10  /* 0 to 79 in the display cells, 0 to 63 in the pattern cells */
+#define YAROPESK_RECORD_REGISTER 11      /* the data register, any byte */
+#define YAROPESK_RECORD_FRESH 12         /* the register is fresh (1) or stale (0) */
+#define YAROPESK_RECORD_HALF 13          /* the half that waits, one of the five below */
+#define YAROPESK_RECORD_HALF_VALUE 14    /* no half: 0; a write's: 0 to 15, its high four bits; a read's: its whole byte */
+                                         /* 15 is zero */
+#define YAROPESK_RECORD_BUSY 16          /* 16 to 19, little-endian: 0 to 10,000 */
+                                         /* 20 to 23 are zero */
+
+#define YAROPESK_COUNTER_DISPLAY 0
+#define YAROPESK_COUNTER_PATTERN 1
+
+#define YAROPESK_HALF_NONE 0
+#define YAROPESK_HALF_INSTRUCTION_WRITE 1
+#define YAROPESK_HALF_DATA_WRITE 2
+#define YAROPESK_HALF_STATUS_READ 3
+#define YAROPESK_HALF_DATA_READ 4
+
+/* A transfer's kind. */
+#define YAROPESK_INSTRUCTION_WRITE 0
+#define YAROPESK_DATA_WRITE 1
+#define YAROPESK_STATUS_READ 2
+#define YAROPESK_DATA_READ 3
+
+/* A transfer as six bytes, as plans and session lines give it. */
+#define YAROPESK_TRANSFER_KIND 0
+#define YAROPESK_TRANSFER_BYTE 1 /* 0 for a read */
+#define YAROPESK_TRANSFER_WAIT 2 /* 2 to 5, little-endian: the time since the transfer before */
+
+/* A wish: where each byte stands, and what it may hold. Any other length or value is no wish, and N=1 with F=1 is none. */
+#define YAROPESK_WISH_N 0      /* 0 or 1, as are F to S, each as in a record */
+#define YAROPESK_WISH_F 1
+#define YAROPESK_WISH_D 2
+#define YAROPESK_WISH_C 3
+#define YAROPESK_WISH_B 4
+#define YAROPESK_WISH_ID 5
+#define YAROPESK_WISH_S 6
+#define YAROPESK_WISH_SHIFT 7  /* with N=0 0 to 79, with N=1 0 to 39 */
+#define YAROPESK_WISH_CURSOR 8 /* the cursor's display cell, 0 to 79 */
+                               /* 9 to 15 are zero */
+
 #ifdef __cplusplus
 extern "C" {
 #endif
 
-/* Power on: any 24 bytes will do for the record. Returns the answer: 0, 1 for a record that is not 24 bytes, or 2. */
+/* Power on. Any 24 bytes will do for the record; it becomes width 8, I/D 1, busy 10,000, and all else 0. Display cells
+ * become 20h, pattern cells stay.
+ * Answers: 1 (only for a record that is not 24 bytes), 2, or 0. The value is 0. */
 uint32_t yaropesk_reset(uint8_t *record, size_t record_length, uint8_t *memory, size_t memory_length);
 
-/* One bus transfer: kind 0 instruction write, 1 data write, 2 status read, 3 data read; its byte, 0 for a read; and the
- * microseconds since the transfer before it. Returns answer + 256 x byte read. */
+/* One bus transfer: its kind, its byte, 0 for a read, and the wait since the transfer before it.
+ * First the wait comes off busy, not below 0. If then no half waits and busy is above 0, all but a status read is answered
+ * 4. When done, Clear and Home leave busy at 1,640, other instructions, data writes and data reads at 40, a status read as
+ * it is.
+ * At width 8 a transfer is complete at once. At width 4 it takes two calls, one for each half, the high one first. Halves
+ * travel in bits 7 to 4, in what is sent and in what is read: 41h is sent as 40h, then 10h. Bits 3 to 0 do not count in
+ * what is sent, and are 0 in what is read. The first call is answered 5. If the second is of another kind, the first one's
+ * kind decides: a write's half takes bits 7 to 4 of whatever byte comes, a read's half returns its low half to any kind.
+ * Answers: 1, 2, 3, 4, 9, 5, 6, 7, 8, or 0. The value is the byte or the half that is read, 0 for a write. */
 uint32_t yaropesk_transfer(uint8_t *record, size_t record_length, uint8_t *memory, size_t memory_length, uint8_t kind,
                            uint8_t byte, uint32_t wait);
 
-/* What a panel of 1 to 40 columns and 1 or 2 lines shows. The output is at least lines x 8 x columns bytes; its byte
- * (line x 8 + row) x columns + column, each counted from 0, holds five dots, bit 4 leftmost. lit: the phase of the
- * blinking, 0 dark, any other lit. Returns the answer: 0, 1, 2, 10 or 11. */
+/* What a panel of 1 to 40 columns and 1 or 2 lines shows, into an output of at least lines x 8 x columns bytes. Byte
+ * (line x 8 + row) x columns + column, each counted from 0, holds five dots, bit 4 leftmost, below three zeros. lit is
+ * the phase of the blinking: 0 dark, any other lit.
+ * Answers: 1, 2, 10, 11, or 0. The value is 0. */
 uint32_t yaropesk_picture(const uint8_t *record, size_t record_length, const uint8_t *memory, size_t memory_length,
                           uint8_t columns, uint8_t lines, uint8_t lit, uint8_t *out, size_t out_length);
 
-/* The transfers that bring a panel into the wished state from any state: marks, 1 or 0, say which of the 144 cells to
- * write, values what to write there. Six bytes a transfer: kind, byte, wait little-endian. The output is at least 2,808
- * bytes. Returns answer + 256 x transfers: 0, 2, 13 (a mark above 1 too) or 11. */
+/* The plan of a wish: the transfers, six bytes each, that bring a panel into the wished state. A mark, 1 or 0 for each of
+ * the 144 cells, says whether to write the cell; its value, read only where marked, says what. The output is at least 2,808
+ * bytes, however short the plan.
+ * Answers: 2, 13, 11, or 0. The value is the count of transfers.
+ *
+ * How to send it. The waits are the least allowed: wait as long or longer. A run may be stopped after any transfer, and
+ * the same plan begun again from its first transfer, as often as you like; send nothing else between the runs, and let the
+ * last run finish. The first transfer of a run may be answered 6, 7 or 8, where it completes a half that was left waiting:
+ * go on. All other transfers are answered 0 or 5.
+ *
+ * What it guarantees, from any sound record and any bytes in the memory. No transfer is answered 4. At the end the record
+ * is as wished: width 4, N to S and the shift as in the wish, the counter on the cursor's display cell, the register fresh
+ * with that cell's byte, no half, busy 40. Every marked cell holds its value. Every other cell holds what it held before
+ * the first run, with one exception: if a data write's half was waiting then, the cell that the counter was on gets that
+ * half as its high four bits, and 3h below. */
 uint32_t yaropesk_plan(const uint8_t *wish, size_t wish_length, const uint8_t *marks, size_t marks_length,
                        const uint8_t *values, size_t values_length, uint8_t *out, size_t out_length);
 
-/* The session line of a transfer, into an output of at least 16 bytes. Returns answer + 256 x length: 0, 3 or 11. */
+/* The session line of a transfer, into an output of at least 16 bytes: I, D, S or R for its kind, a tab, two upper-case
+ * hexadecimal digits, a tab, the wait in decimal without leading zeros, a newline.
+ * Answers: 3, 11, or 0. The value is the line's length. */
 uint32_t yaropesk_write_line(uint8_t kind, uint8_t byte, uint32_t wait, uint8_t *out, size_t out_length);
 
-/* The session line at the start of a text, into an output of at least six bytes, as six bytes: kind, byte, wait
- * little-endian. Returns answer + 256 x length of the line: 0, 12 or 11. */
+/* The session line at the start of a text, as a transfer of six bytes into an output of at least six.
+ * Answers: 12, 11, or 0. The value is the line's length, so that the next line begins there. */
 uint32_t yaropesk_read_line(const uint8_t *text, size_t text_length, uint8_t *out, size_t out_length);
 
 #ifdef __cplusplus

@@ -1,18 +1,44 @@
 #!/bin/sh
-# Compiles examples/plan_panel.c against the proved library, runs it and compares what it writes with
-# examples/plan_panel.out. Where no C compiler is found nothing is compiled, and that is said.
-set -eu
-cd "$(dirname "$0")/.."
+# Compiles tests/header.c and examples/plan_panel.c against the proved library and runs them: the header's test as C and, where a
+# C++ compiler is found, as C++; the example beside examples/plan_panel.out.
+# Where no C compiler is found nothing is compiled. What is not found is said.
+# Prints 'c: N passed, M failed', and fails where M is not 0.
+set -u
+cd "$(dirname "$0")/.." || exit 1
+suite=c
+. tests/common.sh
 library=target/staticlib/libinterface.a
-compiler=$(command -v cc || command -v gcc || command -v clang || true)
-if [ -z "$compiler" ]; then
-    echo "c: no C compiler is found, so the example in C is not compiled"
+c=$(command -v cc || command -v gcc || command -v clang)
+cpp=$(command -v c++ || command -v g++ || command -v clang++)
+if [ -z "$c" ]; then
+    echo "c: no C compiler is found, so the example and the header are not compiled"
     exit 0
 fi
 [ -f "$library" ] || { echo "c: $library is not built: run 'rt staticlib interface' first" >&2; exit 1; }
-work=$(mktemp -d)
-trap 'rm -rf "$work"' EXIT
-"$compiler" -std=c99 -Wall -Wextra -Werror -Iinclude examples/plan_panel.c "$library" -o "$work/plan_panel"
-"$work/plan_panel" > "$work/out"
-diff examples/plan_panel.out "$work/out"
-echo "c: plan_panel writes what it must"
+
+# Compiles a program from one source: its name, the source, and the compiler with its words. No warning is allowed.
+compile() {
+    name=$1
+    source=$2
+    shift 2
+    "$@" -Wall -Wextra -Wpedantic -Werror -Iinclude -c "$source" -o "$work/$name.o" &&
+        "$1" "$work/$name.o" "$library" -o "$work/$name"
+    count "$name compiles" $?
+}
+
+compile header tests/header.c "$c" -std=c99
+timeout 20 "$work/header"
+count 'the header as C' $?
+if [ -n "$cpp" ]; then
+    compile header_cpp tests/header.c "$cpp" -x c++ -std=c++98
+    timeout 20 "$work/header_cpp"
+    count 'the header as C++' $?
+else
+    echo "c: no C++ compiler is found, so the header is not compiled as C++"
+fi
+
+compile plan_panel examples/plan_panel.c "$c" -std=c99
+timeout 20 "$work/plan_panel" > "$work/got"
+same plan_panel "$work/got" examples/plan_panel.out
+
+finish
