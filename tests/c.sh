@@ -1,6 +1,6 @@
 #!/bin/sh
 # Compiles tests/header.c and examples/plan_panel.c against the proved library and runs them: the header's test as C and, where a
-# C++ compiler is found, as C++; the example beside examples/plan_panel.out.
+# C++ compiler is found, as C++; the example from no half and from each of the four, each beside its examples/plan_panel*.out.
 # Where no C compiler is found nothing is compiled. What is not found is said.
 # Prints 'c: N passed, M failed', and fails where M is not 0.
 set -u
@@ -26,6 +26,13 @@ compile() {
     count "$name compiles" $?
 }
 
+# Runs the example from this half, and compares what it writes with this file.
+example() {
+    timeout 20 "$work/plan_panel" "$1" > "$work/got"
+    count "plan_panel $1: status 0" $?
+    same "plan_panel $1" "$work/got" "$2"
+}
+
 compile header tests/header.c "$c" -std=c99
 timeout 20 "$work/header"
 count 'the header as C' $?
@@ -39,6 +46,13 @@ fi
 
 compile plan_panel examples/plan_panel.c "$c" -std=c99
 timeout 20 "$work/plan_panel" > "$work/got"
-same plan_panel "$work/got" examples/plan_panel.out
+same 'plan_panel without a word' "$work/got" examples/plan_panel.out
+example none examples/plan_panel.out
+for half in instruction data status read; do
+    example "$half" "examples/plan_panel.$half.out"
+done
+timeout 20 "$work/plan_panel" other > "$work/got" 2> "$work/errors"
+[ $? -eq 2 ] && [ ! -s "$work/got" ] && [ -s "$work/errors" ]
+count 'plan_panel with another word: usage, status 2' $?
 
 finish
