@@ -87,4 +87,17 @@ readme_block 'See the glass' '+' > "$work/block"
 run glass examples/hello.session
 same 'README, "See the glass"' "$work/block" "$work/got"
 
+# The homes' story: each session goes on from the one before, and examples/README.md prints the cells of all three.
+before=/dev/null
+: > "$work/want"
+for part in before debug after; do
+    session=examples/accounts_$part.session
+    head -c "$(wc -c < "$before")" "$session" > "$work/got"
+    same "$session goes on from $before" "$work/got" "$before"
+    before=$session
+    grep '^display [ 0-9]' "tests/glass/accounts_$part.out" >> "$work/want"
+done
+sed -n 's/^    \(display [ 0-9]\)/\1/p' examples/README.md > "$work/block"
+same 'examples/README, the accounts' "$work/block"
+
 finish
