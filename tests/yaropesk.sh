@@ -1,6 +1,7 @@
 #!/bin/sh
 # Runs the script ./yaropesk: sessions from a file and from standard input, from this folder and from another, what it must turn
-# down, its help, and what README.md prints.
+# down, its help, and what README.md prints. Then, on stand-ins for the programs, what these do too seldom: they complain, are
+# killed or wait.
 # Prints 'yaropesk: N passed, M failed', and fails where M is not 0.
 set -u
 cd "$(dirname "$0")/.." || exit 1
@@ -25,10 +26,14 @@ ends_with() {
     count "$1: status $2, and not $status" $?
 }
 
-# The last run wrote these lines.
+# The last run wrote these lines to standard output or, told, to standard error.
 wrote() {
     printf '%s\n' "$2" > "$work/want"
     same "$1: written"
+}
+told() {
+    printf '%s\n' "$2" > "$work/want"
+    same "$1: told" "$work/errors"
 }
 
 # The last run was quiet on standard error.
@@ -121,6 +126,15 @@ for word in --help --version 'session --help'; do
     run $word more words
     turns_down "$word more words" "yaropesk: words too many behind ${word#session }: more words"
 done
+for words in '16 3' '41 2' '16' '--bmp' '20 2 1'; do
+    # shellcheck disable=SC2086
+    run glass examples/hello.session $words
+    turns_down "glass FILE $words" "$(head -n 1 "$work/errors")"
+    head -n 1 "$work/errors" | grep -q '^glass: allowed are '
+    count "glass FILE $words: what is allowed" $?
+done
+run glass tests/glass/bad_line.session 8 1 --pbm
+ends_with 'glass --pbm on a bad line' 1
 run
 turns_down 'no program' 'usage: ./yaropesk PROGRAM [FILE [WORD...]]'
 
@@ -170,9 +184,9 @@ done
 sed -n 's/^    \(display [ 0-9]\)/\1/p' examples/README.md > "$work/block"
 same 'examples/README, the accounts' "$work/block"
 
-# --- Stand-ins: the same script over other programs.
+# --- Stand-ins. The same script over other programs: `session` is a shell that does what FILE says.
 tree=$work/tree
-mkdir -p "$tree/crates"
+mkdir -p "$tree/crates" "$tree/target/bin" "$work/tmp"
 cp yaropesk README.md crates.txt "$tree"
 for name in $(sed -n 's/^\([a-z_]*\):.*/\1/p' crates.txt) extra bare; do
     mkdir -p "$tree/crates/$name/src"
@@ -182,6 +196,47 @@ for name in session glass bare; do
 done
 printf '// Does more.\n// And more.\nmod more;\n// No more.\n' > "$tree/crates/extra/src/main.rt"
 script=$tree/yaropesk
+# What is left behind is seen here.
+export TMPDIR="$work/tmp"
+
+# A stand-in: a file that is run, from standard input.
+stand_in() {
+    cat > "$1"
+    chmod +x "$1"
+}
+stand_in "$tree/target/bin/session" << 'end'
+#!/bin/sh
+exec sh
+end
+
+# What the program `session` shall do in the next run.
+program() {
+    cat > "$work/program"
+}
+
+# Nothing is left behind in the temporary folder.
+tidy() {
+    [ -z "$(ls -A "$work/tmp")" ]
+    count "$1: no temporary file" $?
+    rm -rf "$work/tmp"
+    mkdir "$work/tmp"
+}
+
+# Is this signal heard here? Who starts this may have it ignored, and then nothing that is started here hears it.
+is_heard() {
+    [ -z "$(exec 2> /dev/null; sh -c "kill -s $1 \$\$; echo ignored"; :)" ] ||
+        { echo "$suite: $1 is ignored here, so that it is not tried"; return 1; }
+}
+
+# Waits, at most ten seconds, until this holds.
+until_so() {
+    tries=200
+    until "$@"; do
+        tries=$((tries - 1))
+        [ "$tries" -gt 0 ] || return 1
+        sleep 0.05
+    done
+}
 
 run extra --help
 quiet 'a program without a row'
@@ -206,5 +261,162 @@ run --version
 quiet '--version without git'
 wrote '--version without git' 'yaropesk 2031-02-03'
 touch -r crates.txt "$tree/crates/extra/src/main.rt"
+
+program << 'end'
+echo written
+end
+run session "$work/program"
+quiet 'a quiet program'
+ends_with 'a quiet program' 0
+wrote 'a quiet program' written
+tidy 'a quiet program'
+
+program << 'end'
+echo written
+printf 'line 2 is bad\nno \377 end' >&2
+end
+run session "$work/program"
+ends_with 'a program that complains' 1
+wrote 'a program that complains' written
+printf 'line 2 is bad\nno \377 end' > "$work/want"
+same 'a program that complains: told as it is' "$work/errors"
+tidy 'a program that complains'
+timeout 60 "$script" session "$work/program" > "$work/got" 2>&-
+status=$?
+ends_with 'a program that complains to nobody' 1
+wrote 'a program that complains to nobody' written
+
+program << 'end'
+echo 'session: allowed are no words' >&2
+end
+run session "$work/program"
+ends_with 'a program that tells what is allowed' 2
+told 'a program that tells what is allowed' 'session: allowed are no words'
+
+program << 'end'
+echo written 2> /dev/null || echo 'cannot write' >&2
+end
+timeout 60 "$script" session "$work/program" >&- 2> "$work/errors"
+status=$?
+ends_with 'closed standard output' 1
+told 'closed standard output' 'cannot write'
+if [ -c /dev/full ]; then
+    timeout 60 "$script" session "$work/program" > /dev/full 2> "$work/errors"
+    status=$?
+    ends_with 'a full disk' 1
+    told 'a full disk' 'cannot write'
+    timeout 60 "$script" session "$work/program" > /dev/full 2> /dev/full
+    status=$?
+    ends_with 'a full disk for both' 1
+    for word in --help --version; do
+        timeout 60 "$script" "$word" > /dev/full 2> "$work/errors"
+        status=$?
+        ends_with "$word on a full disk" 1
+        [ -s "$work/errors" ]
+        count "$word on a full disk: told" $?
+    done
+fi
+
+# Is this line there yet? Files are read here while they are written.
+is_there() {
+    grep -qsx "$1" "$work/now"
+}
+
+# Standard input: closed, large from a file and from a pipe, and line by line.
+stand_in "$tree/target/bin/glass" << 'end'
+#!/bin/sh
+exec cat "$@"
+end
+timeout 60 "$script" glass <&- > "$work/got" 2> "$work/errors"
+status=$?
+ends_with 'closed standard input' 1
+grep -q '^cat: ' "$work/errors"
+count 'closed standard input is closed for the program' $?
+awk 'BEGIN { for (i = 0; i < 600000; i++) print "line", i }' > "$work/large"
+run glass "$work/large"
+writes 'a large file' "$work/large"
+# A pipe is wanted here, and not the file.
+# shellcheck disable=SC2002
+cat "$work/large" | timeout 60 "$script" glass > "$work/got" 2> "$work/errors"
+same 'a large pipe' "$work/got" "$work/large"
+{
+    echo first
+    until_so is_there first && echo second
+} | timeout 60 "$script" glass > "$work/now" 2> "$work/errors"
+printf 'first\nsecond\n' > "$work/want"
+same 'input and output line by line' "$work/now"
+quiet 'input and output line by line'
+
+# What is said is passed on while the program runs.
+{
+    until_so is_there early && echo 'echo late >&2'
+} | {
+    { echo 'echo early >&2'; cat; } | timeout 60 "$script" session 2> "$work/now"
+}
+printf 'early\nlate\n' > "$work/want"
+same 'told at once' "$work/now"
+
+# Ends of every kind.
+program << 'end'
+kill -s SEGV $$
+end
+run session "$work/program"
+ends_with 'a killed program' 1
+told 'a killed program' 'yaropesk: session was ended by the signal SEGV'
+tidy 'a killed program'
+program << 'end'
+exit 3
+end
+run session "$work/program"
+ends_with 'a program that fails' 1
+told 'a program that fails' 'yaropesk: session ended with status 3'
+# A reader that has seen enough: the system's signal, as with any program, and nothing is said.
+if is_heard PIPE; then
+    {
+        timeout 60 "$script" glass "$work/large" 2> "$work/errors"
+        echo $? > "$work/status"
+    } | head -n 1 > "$work/got"
+    status=$(cat "$work/status")
+    ends_with 'a reader that has seen enough' 141
+    quiet 'a reader that has seen enough'
+    wrote 'a reader that has seen enough' 'line 0'
+    tidy 'a reader that has seen enough'
+fi
+
+# --- Stopped. The script's own number is known to what it starts, which sends it the signal and waits.
+gone() {
+    ! kill -0 "$1" 2> /dev/null || grep -qs '^State:.*Z' "/proc/$1/status"
+}
+
+export STAND="$work"
+
+# Runs the script, stopped by this signal, and looks for what it left.
+stopped() {
+    rm -f "$work"/number*
+    # A subshell, since a shell tells on its standard error how what it ran was ended.
+    (
+        # shellcheck disable=SC2016
+        SIGNAL=$2 timeout 60 sh -c 'echo $$ > "$STAND/number"; exec "$@"' sh "$script" session "$work/program" > "$work/got"
+        echo $? > "$work/status"
+    ) 2> /dev/null
+    status=$(cat "$work/status")
+    ends_with "$1, $2" "$3"
+    tidy "$1, $2"
+    for left in "$work"/number_*; do
+        until_so gone "$(cat "$left")"
+        count "$1, $2: $(basename "$left") has ended" $?
+    done
+}
+
+program << 'end'
+echo $$ > "$STAND/number_of_program"
+kill -s "$SIGNAL" "$(cat "$STAND/number")"
+exec sleep 30
+end
+for pair in HUP:129 INT:130 TERM:143; do
+    signal=${pair%:*}
+    is_heard "$signal" || continue
+    stopped 'stopped while it runs' "$signal" "${pair#*:}"
+done
 
 finish
