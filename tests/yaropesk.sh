@@ -1,7 +1,7 @@
 #!/bin/sh
 # Runs the script ./yaropesk: sessions from a file and from standard input, from this folder and from another, what it must turn
-# down, its help, and what README.md prints. Then, on stand-ins for the programs, what these do too seldom: they complain, are
-# killed or wait.
+# down, its help, and what README.md prints. Then, on stand-ins for the programs and for the command rt, what these do too seldom:
+# programs complain, are killed or wait, and proofs fail or are stopped.
 # Prints 'yaropesk: N passed, M failed', and fails where M is not 0.
 set -u
 cd "$(dirname "$0")/.." || exit 1
@@ -186,7 +186,7 @@ same 'examples/README, the accounts' "$work/block"
 
 # --- Stand-ins. The same script over other programs: `session` is a shell that does what FILE says.
 tree=$work/tree
-mkdir -p "$tree/crates" "$tree/target/bin" "$work/tmp"
+mkdir -p "$tree/crates" "$tree/target/bin" "$work/kit" "$work/tmp"
 cp yaropesk README.md crates.txt "$tree"
 for name in $(sed -n 's/^\([a-z_]*\):.*/\1/p' crates.txt) extra bare; do
     mkdir -p "$tree/crates/$name/src"
@@ -270,6 +270,9 @@ quiet 'a quiet program'
 ends_with 'a quiet program' 0
 wrote 'a quiet program' written
 tidy 'a quiet program'
+timeout 60 "$script" session "$work/program" > "$work/got" 2>&-
+status=$?
+ends_with 'a quiet program and closed standard error' 0
 
 program << 'end'
 echo written
@@ -383,20 +386,146 @@ if is_heard PIPE; then
     tidy 'a reader that has seen enough'
 fi
 
+# --- Proving and building, by a stand-in for rt that does what another file says, and notes its words.
+stand_in "$work/kit/rt" << 'end'
+#!/bin/sh
+echo "$@" >> "$STAND/calls"
+. "$STAND/rt"
+end
+export STAND="$work"
+PATH=$work/kit:$PATH
+cp "$tree/target/bin/session" "$work/built"
+
+# What rt shall do in the next runs.
+rt_does() {
+    cat > "$work/rt"
+    : > "$work/calls"
+}
+
+# These were the words of rt, a call a line.
+called() {
+    printf '%s\n' "$2" > "$work/want"
+    same "$1: what is proved" "$work/calls"
+}
+proving_session='yaropesk: proving controller (1 of 4)
+yaropesk: proving lines (2 of 4)
+yaropesk: proving player (3 of 4)
+yaropesk: proving session (4 of 4)'
+echo 'echo written' > "$work/program"
+
+rm "$tree/target/bin/session"
+rt_does << 'end'
+[ "$2" != session ] || cp "$STAND/built" target/bin/session
+echo 'rt: this is nothing to tell'
+end
+run session "$work/program"
+ends_with 'a first use' 0
+told 'a first use' "$proving_session"
+wrote 'a first use' written
+called 'a first use' 'check controller
+check lines
+check player
+check session'
+tidy 'a first use'
+run session "$work/program"
+quiet 'a second use'
+
+# Crates that need nothing of each other are proved together.
+rm "$tree/target/bin/glass"
+rt_does << 'end'
+[ "$2" != glass ] || cp "$STAND/built" target/bin/glass
+end
+run glass "$work/program"
+ends_with 'crates together' 0
+called 'crates together' 'check controller
+check dots lines
+check player drawing
+check glass'
+told 'crates together' 'yaropesk: proving controller (1 of 6)
+yaropesk: proving dots (2 of 6)
+yaropesk: proving lines (3 of 6)
+yaropesk: proving player (4 of 6)
+yaropesk: proving drawing (5 of 6)
+yaropesk: proving glass (6 of 6)'
+
+# A file that is newer and the same as before: rt builds nothing, and is asked once.
+rt_does < /dev/null
+sleep 0.05
+touch "$tree/crates.txt"
+run session "$work/program"
+told 'a newer file' "$proving_session"
+run session "$work/program"
+quiet 'no newer file'
+# One that is changed while it is proved is proved again.
+rt_does << 'end'
+sleep 0.05
+touch crates.txt
+[ "$2" != session ] || cp "$STAND/built" target/bin/session
+end
+touch "$tree/crates.txt"
+run session "$work/program"
+rt_does < /dev/null
+run session "$work/program"
+told 'a file changed while it is proved' "$proving_session"
+
+rm "$tree/target/bin/session"
+run session "$work/program"
+ends_with 'a program that is proved and not there' 1
+[ "$(tail -n 1 "$work/errors")" = \
+    "yaropesk: session is proved, and $tree/target/bin/session is not there: remove $tree/target and start again" ]
+count 'a program that is proved and not there: told' $?
+rt_does << 'end'
+echo 'rt: out'
+echo 'rt: errors' >&2
+[ "$2" != lines ]
+end
+run session "$work/program"
+ends_with 'a proof that fails' 1
+told 'a proof that fails' 'yaropesk: proving controller (1 of 4)
+yaropesk: proving lines (2 of 4)
+rt: out
+rt: errors
+yaropesk: session is not proved'
+tidy 'a proof that fails'
+
+# A reader of the errors that has seen enough.
+rt_does << 'end'
+sleep 0.2
+end
+if is_heard PIPE; then
+    {
+        timeout 60 "$script" session "$work/program" 2>&1
+        echo $? > "$work/status"
+    } | head -n 1 > "$work/got"
+    status=$(cat "$work/status")
+    ends_with 'proving for a reader that has seen enough' 141
+    wrote 'proving for a reader that has seen enough' 'yaropesk: proving controller (1 of 4)'
+    tidy 'proving for a reader that has seen enough'
+fi
+
+# Without rt: a folder with those commands alone that the script uses.
+mkdir "$work/few"
+for tool in sh dirname basename readlink sed awk grep tr head mktemp find rm; do
+    ln -s "$(command -v "$tool")" "$work/few/$tool"
+done
+PATH=$work/few "$script" session "$work/program" > "$work/got" 2> "$work/errors"
+status=$?
+ends_with 'no rt' 1
+told 'no rt' "yaropesk: session is to be proved and built first, and the Rattle kit's command rt is not found"
+tidy 'no rt'
+
 # --- Stopped. The script's own number is known to what it starts, which sends it the signal and waits.
 gone() {
     ! kill -0 "$1" 2> /dev/null || grep -qs '^State:.*Z' "/proc/$1/status"
 }
 
-export STAND="$work"
-
-# Runs the script, stopped by this signal, and looks for what it left.
+# Runs the script, stopped by this signal and not by the end of what it waits for, and looks for what it left.
 stopped() {
     rm -f "$work"/number*
     # A subshell, since a shell tells on its standard error how what it ran was ended.
     (
         # shellcheck disable=SC2016
-        SIGNAL=$2 timeout 60 sh -c 'echo $$ > "$STAND/number"; exec "$@"' sh "$script" session "$work/program" > "$work/got"
+        SIGNAL=$2 timeout 10 sh -c 'echo $$ > "$STAND/number"; exec "$@"' sh "$script" session "$work/program" > "$work/got"
         echo $? > "$work/status"
     ) 2> /dev/null
     status=$(cat "$work/status")
@@ -408,6 +537,14 @@ stopped() {
     done
 }
 
+rt_does << 'end'
+echo $$ > "$STAND/number_of_rt"
+sleep 30 &
+echo $! > "$STAND/number_of_prover"
+mktemp > /dev/null
+kill -s "$SIGNAL" "$(cat "$STAND/number")"
+wait
+end
 program << 'end'
 echo $$ > "$STAND/number_of_program"
 kill -s "$SIGNAL" "$(cat "$STAND/number")"
@@ -416,6 +553,9 @@ end
 for pair in HUP:129 INT:130 TERM:143; do
     signal=${pair%:*}
     is_heard "$signal" || continue
+    rm -f "$tree/target/bin/session"
+    stopped 'stopped while it proves' "$signal" "${pair#*:}"
+    cp "$work/built" "$tree/target/bin/session"
     stopped 'stopped while it runs' "$signal" "${pair#*:}"
 done
 
