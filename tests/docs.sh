@@ -149,6 +149,15 @@ text != "" { sub(/^ +/, " "); text = text $0 }
 END { field() }' crates/promises/specs/Determined.antt > "$work/fields"
 all_in 'a field of EachDetermined that is not its predicate' "$work/functions" "$work/fields"
 
+# --- Answers: each number has its row in README.md and its name in the header, and no other has.
+sed -n 's/^numberOf [A-Za-z]* = \([0-9]*\)$/\1/p' crates/controller/specs/Answers.antt > "$work/answers"
+sed -n 's/^| \([0-9]*\) | .*/\1/p' README.md > "$work/answers_told"
+sed -n '/^\/\* Answers/,/^$/s/^#define YAROPESK_[A-Z_]* \([0-9]*\).*/\1/p' include/yaropesk.h > "$work/answers_named"
+all_in 'an answer without its row in README.md' "$work/answers" "$work/answers_told"
+all_in 'an answer of README.md that the code does not give' "$work/answers_told" "$work/answers"
+all_in 'an answer without its name in the header' "$work/answers" "$work/answers_named"
+all_in 'an answer of the header that the code does not give' "$work/answers_named" "$work/answers"
+
 # --- Definitions: `Module.name` is defined in specs/Module.antt, `module::name` in src/module.rt of some crate.
 grep -E '^[A-Z][A-Za-z0-9]*\.[A-Za-z0-9]+$' "$work/spans" > "$work/definitions_named"
 awk '/^(unfoldable |abbrev )?pub / && !/^pub mod / {
