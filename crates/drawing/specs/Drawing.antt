@@ -35,7 +35,7 @@ frameLength grid = frameWidth grid * (lastY grid + 1)
 unfoldable pub bitmapLength : Grid → ℕ
 bitmapLength grid = headLength + (lastX grid + 1) * ((lastY grid + 1) * 8)
 
--- The bytes of a drawing. Text and cells end with the state's line.
+-- The bytes of a drawing. Text and cells end with the state's lines.
 abbrev pub lengthOf : Form → Grid → ℕ
 lengthOf Text grid = frameLength grid + stateLength
 lengthOf Bitmap grid = bitmapLength grid

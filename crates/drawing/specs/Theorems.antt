@@ -6,8 +6,10 @@ use mathlib.Core.Path.{_≡_}
 use Prim.Native.Nat.{ℕ, _+_, _*_, _≤_, _<_}
 use lib.ListN.{length}
 use Rattle.controller.specs.declared.answers.Answer.the-variants.{Done}
+use Rattle.controller.specs.declared.cells.Counter.{Counter}
 use Rattle.controller.specs.declared.«record».Record.{Record}
 use Rattle.controller.specs.Answers.{isRefusal, numberOf, Row, Tells}
+use Rattle.controller.specs.Cells.{addressOf, onCell}
 use Rattle.dots.specs.declared.geometry.Size.{Size}
 use Rattle.dots.specs.Font.{font}
 use Rattle.dots.specs.Geometry.{height, pictureRoom}
@@ -18,6 +20,7 @@ use Rattle.drawing.specs.declared.drawing.Form.{Form}
 use Rattle.drawing.specs.declared.drawing.Form.the-variants.{Text, Bitmap, Cells}
 use Rattle.drawing.specs.Grid.{dotOf, isLit}
 use Rattle.drawing.specs.Drawing.{Drawn, answering, dotsOf, gridFor}
+use Rattle.drawing.specs.State.{addressShown}
 
 -- Five columns of the grid for each column of the glass, and a row for each row of dots: the grid is lit where the picture's dot
 -- is, the dots counted from the left from 1.
@@ -29,12 +32,16 @@ DotsInPlace =
     → isLit (dotsOf rec mem size lit) (gridFor rec size) (column * 6 + dot) (line * (height (rec .function) + 1) + (row + 1))
     ≡ dotOf (dotsAt font rec mem lit line row column) dot
 
+-- The address that the state tells is the counter's own, which a status read gives.
+abbrev pub AddressTold : Type 0
+AddressTold = (n : Bool) (counter : Counter) → onCell counter ≡ true → addressShown n counter ≡ addressOf n counter
+
 -- The bytes of a drawing, each character six dots wide and nine high with the gap beside it, in a frame: lines of text with
--- their ends, and the state's 74; a head of 13 and pixels eight rows high; or a listing of 794.
+-- their ends, and the state's 127; a head of 13 and pixels eight rows high; or a listing of 847.
 abbrev pub bytesFor : Form → Size → ℕ
-bytesFor Text size = (size .columns * 6 + 2) * (size .lines * 9 + 1) + 74
+bytesFor Text size = (size .columns * 6 + 2) * (size .lines * 9 + 1) + 127
 bytesFor Bitmap size = 13 + (size .columns * 6 + 1) * ((size .lines * 9 + 1) * 8)
-bytesFor Cells size = 794
+bytesFor Cells size = 847
 
 -- The rows of draw.
 abbrev pub drawRows : Form → Record → List ℕ → Size → ℕ → List Row

@@ -29,8 +29,8 @@ use lines::Written;
 // The length of the bitmap's head.
 const HEAD: usize = 13;
 
-// The length of the state's line.
-const STATE: usize = 74;
+// The length of the state's lines.
+const STATE: usize = 127;
 
 // A line of the listing, and the nine of them.
 const LISTING_WIDTH: usize = 75;
