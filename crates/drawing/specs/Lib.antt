@@ -2,6 +2,7 @@ pub mod Numbers
 pub mod Grid
 pub mod Frame
 pub mod Bitmap
+pub mod Letters
 pub mod Listing
 pub mod State
 pub mod Drawing

@@ -37,11 +37,11 @@ abbrev pub AddressTold : Type 0
 AddressTold = (n : Bool) (counter : Counter) → onCell counter ≡ true → addressShown n counter ≡ addressOf n counter
 
 -- The bytes of a drawing, each character six dots wide and nine high with the gap beside it, in a frame: lines of text with
--- their ends, and the state's 127; a head of 13 and pixels eight rows high; or a listing of 847.
+-- their ends, and the state's 127; a head of 13 and pixels eight rows high; or a listing of 1027.
 abbrev pub bytesFor : Form → Size → ℕ
 bytesFor Text size = (size .columns * 6 + 2) * (size .lines * 9 + 1) + 127
 bytesFor Bitmap size = 13 + (size .columns * 6 + 1) * ((size .lines * 9 + 1) * 8)
-bytesFor Cells size = 847
+bytesFor Cells size = 1027
 
 -- The rows of draw.
 abbrev pub drawRows : Form → Record → List ℕ → Size → ℕ → List Row

@@ -33,9 +33,9 @@ const HEAD: usize = 13;
 const STATE: usize = 127;
 
 // A line of the listing, and the nine of them.
-const LISTING_WIDTH: usize = 75;
+const LISTING_WIDTH: usize = 95;
 
-const LISTING: usize = 675;
+const LISTING: usize = 855;
 
 // The length of what the marks mean.
 const LEGEND: usize = 45;

@@ -3,6 +3,7 @@ mod bitmap;
 mod drawing;
 mod frame;
 mod grid;
+mod letters;
 mod listing;
 mod numbers;
 mod state;
