@@ -1,10 +1,10 @@
-// The three forms of a drawing, byte by byte, and the public call with its refusals.
+// The forms of a drawing, byte by byte, and the public call with its refusals.
 ghost use mathlib.Core.Path.{_≡_};
 ghost use Prim.Native.Nat.{_≤_, _<_};
 ghost use lib.ListN.{length};
 ghost use Rattle.dots.specs.Picture.{painted};
 ghost use Rattle.drawing.specs.Drawing.{bitmapByte, bitmapLength, DrawnTaken, drawnByte, cellsByte, frameLength};
-ghost use Rattle.drawing.specs.Drawing.{frameWidth, headByte, lengthOf, listingByte, textByte};
+ghost use Rattle.drawing.specs.Drawing.{lettersByte, frameWidth, headByte, lengthOf, listingByte, frameByte};
 ghost use Rattle.drawing.specs.Grid.{Small};
 ghost use Rattle.drawing.specs.Promises.{DrawPromise};
 use crate::bitmap::bitmap_head;
@@ -14,6 +14,9 @@ use crate::grid::Grid;
 use crate::grid::byte_in;
 use crate::grid::last_x;
 use crate::grid::last_y;
+use crate::letters::letters_at;
+use crate::letters::letters_length;
+use crate::letters::letters_width;
 use crate::listing::legend_at;
 use crate::listing::listing_at;
 use crate::state::state_byte;
@@ -40,9 +43,10 @@ const LISTING: usize = 855;
 // The length of what the marks mean.
 const LEGEND: usize = 45;
 
-// How a panel is drawn: its dots as text in a frame, or as a bitmap, or its cells listed.
+// How a panel is drawn: its dots as text in a frame, what it reads as letters, its dots as a bitmap, or its cells listed.
 pub enum Form {
-    Text,
+    Dots,
+    Letters,
     Bitmap,
     Cells,
 }
@@ -74,21 +78,36 @@ fn length_of(form: Form, grid: Grid) -> usize
     ensures { λ r. ⌜ r ≡ lengthOf form grid ⌝ }
 {
     match form {
-        Form::Text => frame_length(grid) + STATE,
+        Form::Dots => frame_length(grid) + STATE,
+        Form::Letters => letters_length(grid) + STATE,
         Form::Bitmap => bitmap_length(grid),
         Form::Cells => LEGEND + (LISTING + STATE),
     }
 }
 
 // The frame line by line, then the state.
-fn text_byte(dots: &[u8], rec: Record, grid: Grid, place: usize) -> u8
+fn frame_byte(dots: &[u8], rec: Record, grid: Grid, place: usize) -> u8
     requires { ⌜ Small grid ⌝ }
-    ensures { λ r. ⌜ r ≡ textByte (now (dots .entry)) rec grid place ⌝ }
+    ensures { λ r. ⌜ r ≡ frameByte (now (dots .entry)) rec grid place ⌝ }
 {
     let length = frame_length(grid);
     if place < length {
         let width = frame_width(grid);
         return frame_at(dots, grid, place % width, place / width);
+    }
+    state_byte(rec, place - length)
+}
+
+// The letters row by row, then the state.
+fn letters_byte(memory: &[u8], rec: Record, grid: Grid, place: usize) -> u8
+    requires { ⌜ Small grid ⌝ }
+    ensures { λ r. ⌜ r ≡ lettersByte (now (memory .entry)) rec (grid .size) place ⌝ }
+{
+    let length = letters_length(grid);
+    if place < length {
+        let size = grid.size;
+        let width = letters_width(size);
+        return letters_at(memory, rec, size, place % width, place / width);
     }
     state_byte(rec, place - length)
 }
@@ -146,7 +165,8 @@ fn drawn_byte(form: Form, dots: &[u8], memory: &[u8], rec: Record, grid: Grid, p
 {
     let size = grid.size;
     match form {
-        Form::Text => text_byte(dots, rec, grid, place),
+        Form::Dots => frame_byte(dots, rec, grid, place),
+        Form::Letters => letters_byte(memory, rec, grid, place),
         Form::Bitmap => bitmap_byte(dots, grid, place),
         Form::Cells => cells_byte(memory, rec, size, place),
     }

@@ -1,4 +1,5 @@
-// A panel drawn for people: its dots as text in a frame, as a bitmap, or its cells listed, each written into a lent buffer.
+// A panel drawn for people: its dots as text in a frame, its letters, its dots as a bitmap, or its cells listed, each written into
+// a lent buffer.
 mod bitmap;
 mod drawing;
 mod frame;

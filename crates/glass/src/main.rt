@@ -36,7 +36,8 @@ fn tell_usage() {
 // A bitmap is to be alone on standard output, so that a viewer can read it.
 fn place_for_words(form: Form) -> i32 {
     match form {
-        Form::Text => STDOUT_FILENO,
+        Form::Dots => STDOUT_FILENO,
+        Form::Letters => STDOUT_FILENO,
         Form::Bitmap => STDERR_FILENO,
         Form::Cells => STDOUT_FILENO,
     }

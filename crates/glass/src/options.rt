@@ -45,6 +45,9 @@ fn word_of(text: &[u8]) -> Word {
     if same(text, b"--pbm") {
         return Word::Form(Form::Bitmap);
     }
+    if same(text, b"--text") {
+        return Word::Form(Form::Letters);
+    }
     if same(text, b"--cells") {
         return Word::Form(Form::Cells);
     }
@@ -79,18 +82,19 @@ fn with_number(options: Options, number: u8) -> Options {
     not_understood(options)
 }
 
-fn is_text(form: Form) -> bool {
+fn is_dots(form: Form) -> bool {
     match form {
-        Form::Text => true,
+        Form::Dots => true,
+        Form::Letters => false,
         Form::Bitmap => false,
         Form::Cells => false,
     }
 }
 
-// Another form than text can be asked for once.
+// Another form than dots can be asked for once.
 fn with_form(options: Options, form: Form) -> Options {
     let before = options.form;
-    if is_text(before) {
+    if is_dots(before) {
         return Options { form, ..options };
     }
     not_understood(options)
@@ -114,7 +118,7 @@ fn word_at(at: usize) -> Word {
 // The words of the command line in turn.
 pub fn read_options() -> Options {
     let mut options = Options {
-        form: Form::Text,
+        form: Form::Dots,
         columns: 16,
         lines: 2,
         numbers: 0,
