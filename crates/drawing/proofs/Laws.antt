@@ -1,4 +1,5 @@
 pub mod Grid
+pub mod Blocks
 pub mod Letters
 pub mod Text
 pub mod Drawing

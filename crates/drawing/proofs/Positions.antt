@@ -5,7 +5,6 @@ use mathlib.Core.List.{List}
 use mathlib.Core.Path.{_≡_, refl, sym, ap, _∙_}
 use Prim.Native.Char.{code}
 use Prim.Native.Nat.{ℕ, _+_, _-_, _*_, _/_, _%_, _≤_, _<_}
-use native.Mathlib.Nat.{mul-comm}
 use native.Mathlib.Omega.{arith}
 use borrow.Author.Tests.{eq-eqb, eqb-true, le-ltb, lt-ltb, ne-eqb}
 use lib.Dec.{eqb}
@@ -16,20 +15,17 @@ use Rattle.dots.specs.declared.geometry.Shown.{Shown}
 use Rattle.dots.specs.declared.geometry.Shown.the-variants.{Cell, Undriven}
 use Rattle.dots.specs.declared.geometry.Size.{Size}
 use Rattle.dots.specs.Geometry.{cellAt}
-use Rattle.dots.proofs.Places.{column-of-place, row-ends, row-of-place}
+use Rattle.dots.proofs.Places.{column-of-place, row-of-place}
 use Rattle.drawing.specs.declared.grid.Grid.{Grid}
 use Rattle.drawing.specs.declared.drawing.Form.the-variants.{Letters}
 use Rattle.drawing.specs.Letters.{caretAt, columnAt, counterShown, fromColumn, letterAt, letterFor, letterShown, lettersAt, lettersLength, lettersWidth}
 use Rattle.drawing.specs.Drawing.{drawnByte, lettersByte}
+use Rattle.drawing.proofs.Laws.Grid.{row-inside}
 use Rattle.drawing.specs.Theorems.{CaretInPlace, LettersInPlace, LettersKept, ShowsCounter}
 
 pub letters-kept : LettersKept
 unfolding letterFor
 letters-kept char low high = simp (le-ltb char 0x10 (omega arith), le-ltb char 0x20 low, lt-ltb char 0x7E high)
-
--- a row of the text ends within it
-row-inside : (width row rows place : ℕ) → row < rows → place < width → row * width + place < width * rows
-row-inside width row rows place r p = rw (mul-comm width rows) (omega (arith, row-ends width row rows r))
 
 -- the byte at a row of the text and a column of the glass
 byte-of-column : (dots mem : List ℕ) (rec : Record) (grid : Grid) (row column : ℕ) → row < grid .size .lines * 2 → column < grid .size .columns

@@ -17,8 +17,9 @@ use Rattle.dots.proofs.Places.{column-of-place, row-of-place}
 use Rattle.dots.proofs.Theorems.{answers-given, each-byte}
 use Rattle.lines.specs.declared.writer.Written.{Written}
 use Rattle.drawing.specs.declared.grid.Grid.{Grid}
-use Rattle.drawing.specs.declared.drawing.Form.the-variants.{Dots, Letters, Bitmap, Cells}
+use Rattle.drawing.specs.declared.drawing.Form.the-variants.{Blocks, Dots, Letters, Bitmap, Cells}
 use Rattle.drawing.specs.Grid.{byteOf, isBetween, isLit, lastX, lastY}
+use Rattle.drawing.specs.Blocks.{blocksLength, blocksWidth}
 use Rattle.drawing.specs.Letters.{lettersLength, lettersWidth}
 use Rattle.drawing.specs.Drawing.{answering, bitmapLength, drawnLength, frameLength, frameWidth, gridFor}
 use Rattle.drawing.specs.State.{addressShown}
@@ -63,8 +64,9 @@ address-told n (Display cell) on =
 address-told n (Pattern cell) on = omega (arith, on-pattern cell on)
 
 pub draw-answers : DrawAnswers
-unfolding frameLength frameWidth lettersLength lettersWidth bitmapLength lastX lastY height
+unfolding frameLength frameWidth blocksLength blocksWidth lettersLength lettersWidth bitmapLength lastX lastY height
 draw-answers Dots rec mem size room = answers-given rec mem size _ room
+draw-answers Blocks rec mem size room = answers-given rec mem size _ room
 draw-answers Letters rec mem size room = answers-given rec mem size _ room
 draw-answers Bitmap rec mem size room = answers-given rec mem size _ room
 draw-answers Cells rec mem size room = answers-given rec mem size _ room

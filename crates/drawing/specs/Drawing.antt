@@ -15,10 +15,11 @@ use Rattle.dots.specs.Geometry.{height, pictureRoom}
 use Rattle.dots.specs.Picture.{answerFor, output, outputLeft}
 use Rattle.lines.specs.declared.writer.Written.{Written}
 use Rattle.drawing.specs.declared.drawing.Form.{Form}
-use Rattle.drawing.specs.declared.drawing.Form.the-variants.{Dots, Letters, Bitmap, Cells}
+use Rattle.drawing.specs.declared.drawing.Form.the-variants.{Blocks, Dots, Letters, Bitmap, Cells}
 use Rattle.drawing.specs.declared.grid.Grid.{Grid}
 use Rattle.drawing.specs.Grid.{lastX, lastY}
 use Rattle.drawing.specs.Frame.{frameAt}
+use Rattle.drawing.specs.Blocks.{blocksAt, blocksLength, blocksWidth}
 use Rattle.drawing.specs.Bitmap.{bitmapHead, headLength, pixelsAt}
 use Rattle.drawing.specs.Letters.{lettersAt, lettersLength, lettersWidth}
 use Rattle.drawing.specs.Listing.{legend, legendLength, listingAt, listingLength, listingWidth}
@@ -39,6 +40,7 @@ bitmapLength grid = headLength + (lastX grid + 1) * ((lastY grid + 1) * 8)
 -- The bytes of a drawing. All but the bitmap end with the state's lines.
 abbrev pub lengthOf : Form → Grid → ℕ
 lengthOf Dots grid = frameLength grid + stateLength
+lengthOf Blocks grid = blocksLength grid + stateLength
 lengthOf Letters grid = lettersLength (grid .size) + stateLength
 lengthOf Bitmap grid = bitmapLength grid
 lengthOf Cells grid = legendLength + (listingLength + stateLength)
@@ -52,6 +54,12 @@ unfoldable pub frameByte : List ℕ → Record → Grid → ℕ → ℕ
 frameByte dots rec grid place =
     cond (ltb place (frameLength grid)) (frameAt dots grid (place % frameWidth grid) (place / frameWidth grid))
     (stateByte rec (place - frameLength grid))
+
+-- The block characters row by row, then the state.
+unfoldable pub blocksByte : List ℕ → Record → Grid → ℕ → ℕ
+blocksByte dots rec grid place =
+    cond (ltb place (blocksLength grid)) (blocksAt dots grid (place % blocksWidth grid) (place / blocksWidth grid))
+    (stateByte rec (place - blocksLength grid))
 
 -- The letters row by row, then the state.
 unfoldable pub lettersByte : List ℕ → Record → Size → ℕ → ℕ
@@ -80,6 +88,7 @@ cellsByte mem rec size place =
 -- The byte at a place of a drawing.
 abbrev pub drawnByte : Form → List ℕ → List ℕ → Record → Grid → ℕ → ℕ
 drawnByte Dots dots mem rec grid place = frameByte dots rec grid place
+drawnByte Blocks dots mem rec grid place = blocksByte dots rec grid place
 drawnByte Letters dots mem rec grid place = lettersByte mem rec (grid .size) place
 drawnByte Bitmap dots mem rec grid place = bitmapByte dots grid place
 drawnByte Cells dots mem rec grid place = cellsByte mem rec (grid .size) place

@@ -6,7 +6,7 @@ use mathlib.Core.List.{List}
 use mathlib.Core.Logic.{_↔_}
 use mathlib.Core.Path.{_≡_}
 use Prim.Native.Char.{code}
-use Prim.Native.Nat.{ℕ, _+_, _*_, _≤_, _<_}
+use Prim.Native.Nat.{ℕ, _+_, _*_, _/_, _≤_, _<_}
 use lib.ListN.{length, getD}
 use Rattle.controller.specs.declared.answers.Answer.the-variants.{Done}
 use Rattle.controller.specs.declared.cells.Counter.{Counter}
@@ -22,7 +22,7 @@ use Rattle.dots.specs.Picture.{answered, dotsAt}
 use Rattle.dots.specs.Theorems.{rowsFor}
 use Rattle.lines.specs.declared.writer.Written.{Written}
 use Rattle.drawing.specs.declared.drawing.Form.{Form}
-use Rattle.drawing.specs.declared.drawing.Form.the-variants.{Dots, Letters, Bitmap, Cells}
+use Rattle.drawing.specs.declared.drawing.Form.the-variants.{Blocks, Dots, Letters, Bitmap, Cells}
 use Rattle.drawing.specs.declared.grid.Grid.{Grid}
 use Rattle.drawing.specs.Grid.{dotOf, isLit}
 use Rattle.drawing.specs.Letters.{letterFor}
@@ -70,14 +70,15 @@ CaretInPlace =
 abbrev pub AddressTold : Type 0
 AddressTold = (n : Bool) (counter : Counter) → onCell counter ≡ true → addressShown n counter ≡ addressOf n counter
 
--- The bytes of a drawing, each character six dots wide and nine high with the gap beside it, in a frame: lines of text with
--- their ends, and the state's 127; two rows of letters for each line, three places wider than it, and the state; a head of 13
--- and pixels eight rows high; or a listing of 1027.
+-- The bytes of a drawing, each character six dots wide and nine high with the gap beside it. All but the bitmap end with the
+-- state's 127. In a frame: lines of text with their ends; rows of block characters, three bytes each, two dots wide and high; two
+-- rows of letters for each line, three places wider than it. A head of 13 and pixels eight rows high. A listing of 900.
 abbrev pub bytesFor : Form → Size → ℕ
 bytesFor Dots size = (size .columns * 6 + 2) * (size .lines * 9 + 1) + 127
+bytesFor Blocks size = ((size .columns * 3 + 2) * 3 + 1) * (size .lines * 9 / 2 + 2) + 127
 bytesFor Letters size = (size .columns + 3) * (size .lines * 2) + 127
 bytesFor Bitmap size = 13 + (size .columns * 6 + 1) * ((size .lines * 9 + 1) * 8)
-bytesFor Cells size = 1027
+bytesFor Cells size = 900 + 127
 
 -- The rows of draw.
 abbrev pub drawRows : Form → Record → List ℕ → Size → ℕ → List Row

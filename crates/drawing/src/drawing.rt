@@ -4,11 +4,14 @@ ghost use Prim.Native.Nat.{_≤_, _<_};
 ghost use lib.ListN.{length};
 ghost use Rattle.dots.specs.Picture.{painted};
 ghost use Rattle.drawing.specs.Drawing.{bitmapByte, bitmapLength, DrawnTaken, drawnByte, cellsByte, frameLength};
-ghost use Rattle.drawing.specs.Drawing.{lettersByte, frameWidth, headByte, lengthOf, listingByte, frameByte};
+ghost use Rattle.drawing.specs.Drawing.{blocksByte, lettersByte, frameWidth, headByte, lengthOf, listingByte, frameByte};
 ghost use Rattle.drawing.specs.Grid.{Small};
 ghost use Rattle.drawing.specs.Promises.{DrawPromise};
 use crate::bitmap::bitmap_head;
 use crate::bitmap::pixels_at;
+use crate::blocks::blocks_at;
+use crate::blocks::blocks_length;
+use crate::blocks::blocks_width;
 use crate::frame::frame_at;
 use crate::grid::Grid;
 use crate::grid::byte_in;
@@ -43,9 +46,11 @@ const LISTING: usize = 855;
 // The length of what the marks mean.
 const LEGEND: usize = 45;
 
-// How a panel is drawn: its dots as text in a frame, what it reads as letters, its dots as a bitmap, or its cells listed.
+// How a panel is drawn: its dots in a frame or as block characters, what it reads as letters, its dots as a bitmap, or its cells
+// listed.
 pub enum Form {
     Dots,
+    Blocks,
     Letters,
     Bitmap,
     Cells,
@@ -79,6 +84,7 @@ fn length_of(form: Form, grid: Grid) -> usize
 {
     match form {
         Form::Dots => frame_length(grid) + STATE,
+        Form::Blocks => blocks_length(grid) + STATE,
         Form::Letters => letters_length(grid) + STATE,
         Form::Bitmap => bitmap_length(grid),
         Form::Cells => LEGEND + (LISTING + STATE),
@@ -94,6 +100,19 @@ fn frame_byte(dots: &[u8], rec: Record, grid: Grid, place: usize) -> u8
     if place < length {
         let width = frame_width(grid);
         return frame_at(dots, grid, place % width, place / width);
+    }
+    state_byte(rec, place - length)
+}
+
+// The block characters row by row, then the state.
+fn blocks_byte(dots: &[u8], rec: Record, grid: Grid, place: usize) -> u8
+    requires { ⌜ Small grid ⌝ }
+    ensures { λ r. ⌜ r ≡ blocksByte (now (dots .entry)) rec grid place ⌝ }
+{
+    let length = blocks_length(grid);
+    if place < length {
+        let width = blocks_width(grid);
+        return blocks_at(dots, grid, place % width, place / width);
     }
     state_byte(rec, place - length)
 }
@@ -166,6 +185,7 @@ fn drawn_byte(form: Form, dots: &[u8], memory: &[u8], rec: Record, grid: Grid, p
     let size = grid.size;
     match form {
         Form::Dots => frame_byte(dots, rec, grid, place),
+        Form::Blocks => blocks_byte(dots, rec, grid, place),
         Form::Letters => letters_byte(memory, rec, grid, place),
         Form::Bitmap => bitmap_byte(dots, grid, place),
         Form::Cells => cells_byte(memory, rec, size, place),

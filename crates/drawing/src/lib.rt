@@ -1,6 +1,7 @@
-// A panel drawn for people: its dots as text in a frame, its letters, its dots as a bitmap, or its cells listed, each written into
-// a lent buffer.
+// A panel drawn for people: its dots in a frame, as block characters or as a bitmap, its letters, or its cells listed, each written
+// into a lent buffer.
 mod bitmap;
+mod blocks;
 mod drawing;
 mod frame;
 mod grid;

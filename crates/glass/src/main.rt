@@ -37,6 +37,7 @@ fn tell_usage() {
 fn place_for_words(form: Form) -> i32 {
     match form {
         Form::Dots => STDOUT_FILENO,
+        Form::Blocks => STDOUT_FILENO,
         Form::Letters => STDOUT_FILENO,
         Form::Bitmap => STDERR_FILENO,
         Form::Cells => STDOUT_FILENO,

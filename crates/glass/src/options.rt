@@ -45,6 +45,9 @@ fn word_of(text: &[u8]) -> Word {
     if same(text, b"--pbm") {
         return Word::Form(Form::Bitmap);
     }
+    if same(text, b"--blocks") {
+        return Word::Form(Form::Blocks);
+    }
     if same(text, b"--text") {
         return Word::Form(Form::Letters);
     }
@@ -85,6 +88,7 @@ fn with_number(options: Options, number: u8) -> Options {
 fn is_dots(form: Form) -> bool {
     match form {
         Form::Dots => true,
+        Form::Blocks => false,
         Form::Letters => false,
         Form::Bitmap => false,
         Form::Cells => false,

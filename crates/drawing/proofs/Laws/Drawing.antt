@@ -4,11 +4,12 @@ use Prim.Native.Nat.{ℕ, _+_, _-_, _*_, _/_, _%_, _≤_, _<_}
 use native.Mathlib.Nat.{mod-lt}
 use native.Mathlib.Omega.{arith}
 use Rattle.drawing.specs.declared.drawing.Form.{Form}
-use Rattle.drawing.specs.declared.drawing.Form.the-variants.{Dots, Letters, Bitmap, Cells}
+use Rattle.drawing.specs.declared.drawing.Form.the-variants.{Blocks, Dots, Letters, Bitmap, Cells}
 use Rattle.drawing.specs.declared.grid.Grid.{Grid}
 use Rattle.drawing.specs.Grid.{Small, lastX, lastY}
 use Rattle.drawing.specs.Drawing.{frameWidth, frameLength, bitmapLength, lengthOf}
 use Rattle.drawing.proofs.Laws.Grid.{in-row, last-x-most, last-y-most, product}
+use Rattle.drawing.proofs.Laws.Blocks.{blocks-most}
 use Rattle.drawing.proofs.Laws.Letters.{letters-most}
 
 pub width-some : (grid : Grid) → 0 < frameWidth grid
@@ -53,6 +54,7 @@ module _ (grid : Grid) (small : Small grid) where
   pub length-most : (form : Form) → lengthOf form grid ≤ 65535
   unfolding bitmapLength
   length-most Dots = omega (arith, frame-most)
+  length-most Blocks = omega (arith, blocks-most grid small)
   length-most Letters = omega (arith, letters-most grid small)
   length-most Bitmap = omega (arith, pixels-most)
   length-most Cells = omega arith

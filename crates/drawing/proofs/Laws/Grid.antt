@@ -7,6 +7,7 @@ use native.Mathlib.Nat.{div-add-mod', div-lt-iff-lt-mul, mul-comm, mul-le-mul, m
 use native.Mathlib.Omega.{arith}
 use borrow.Author.Tests.{eqb-false}
 use lib.Dec.{eqb}
+use Rattle.dots.proofs.Places.{row-ends}
 use Rattle.drawing.specs.declared.grid.Grid.{Grid}
 use Rattle.drawing.specs.Grid.{Small, isBetween, lastX, lastY}
 
@@ -35,6 +36,10 @@ product a b m n p q = mul-le-mul p q
 -- a place of a text of so many rows stands in a row of it
 pub in-row : (place width rows : ℕ) → 0 < width → place < width * rows → place / width < rows
 in-row place width rows some inside = div-lt-iff-lt-mul some .1 (rw (mul-comm width rows) at inside)
+
+-- and a place of a row stands within the text
+pub row-inside : (width row rows place : ℕ) → row < rows → place < width → row * width + place < width * rows
+row-inside width row rows place r p = rw (mul-comm width rows) (omega (arith, row-ends width row rows r))
 
 pub last-y-most : (grid : Grid) → Small grid → lastY grid ≤ 24
 unfolding lastY
