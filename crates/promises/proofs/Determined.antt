@@ -63,6 +63,7 @@ each-determined =
       put-text = λ out at text. placed _;
       put-number = λ out at number. placed _;
       put-hex = λ out at byte. placed _;
+      put-answer = λ out at answer. placed _;
       first = λ bytes count. one _;
       read-line = λ text. one _;
       write-line = λ kind byte wait out. two _ _ _ (record { told = refl; number = refl; buffer = refl }) (λ a l is. (is .told, is .buffer));

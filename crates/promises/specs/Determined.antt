@@ -29,7 +29,8 @@ use Rattle.dots.specs.Promises.{PicturePromise, RowsOfPromise, IsShownPromise}
 use Rattle.interface.specs.Promises.{YaropeskResetPromise, YaropeskTransferPromise, YaropeskPicturePromise, YaropeskPlanPromise}
 use Rattle.interface.specs.Promises.{YaropeskWriteLinePromise, YaropeskReadLinePromise}
 use Rattle.lines.specs.Promises.{ReadLinePromise, WriteLinePromise, WriteRowPromise, WriteHeaderPromise, HexDigitPromise}
-use Rattle.lines.specs.Promises.{WorthOfPromise, PutTextPromise, PutBytePromise, PutNumberPromise, PutHexPromise, FirstPromise}
+use Rattle.lines.specs.Promises.{WorthOfPromise, PutTextPromise, PutBytePromise, PutNumberPromise, PutHexPromise}
+use Rattle.lines.specs.Promises.{PutAnswerPromise, FirstPromise}
 use Rattle.planner.specs.Promises.{PlanPromise}
 use Rattle.player.specs.Promises.{PlayPromise, PlayThroughPromise}
 
@@ -72,6 +73,8 @@ pub record EachDetermined : Type 0 where
       → ExactlyOne (λ (x : ℕ × List ℕ). PutTextPromise out at text (x .0) (x .1))
   pub put-number : (out : List ℕ) (at number : ℕ) → ExactlyOne (λ (x : ℕ × List ℕ). PutNumberPromise out at number (x .0) (x .1))
   pub put-hex : (out : List ℕ) (at byte : ℕ) → ExactlyOne (λ (x : ℕ × List ℕ). PutHexPromise out at byte (x .0) (x .1))
+  pub put-answer : (out : List ℕ) (at : ℕ) (answer : Answer)
+      → ExactlyOne (λ (x : ℕ × List ℕ). PutAnswerPromise out at answer (x .0) (x .1))
   pub first : (bytes : List ℕ) (count : ℕ) → ExactlyOne (λ (x : List ℕ). FirstPromise bytes count x)
   pub read-line : (text : List ℕ) → ExactlyOne (λ (x : Line). ReadLinePromise text x)
   pub write-line : (kind byte wait : ℕ) (out : List ℕ)
