@@ -83,7 +83,7 @@ pub record EachDetermined : Type 0 where
       → ExactlyOne (λ (x : Written × List ℕ). WriteRowPromise number answer byte busy out (x .0) (x .1))
   pub write-header : (out : List ℕ) → ExactlyOne (λ (x : Written × List ℕ). WriteHeaderPromise out (x .0) (x .1))
   pub play : (text out : List ℕ) → ExactlyOne (λ (x : Written × List ℕ). PlayPromise text out (x .0) (x .1))
-  pub play-through : (text : List ℕ) → ExactlyOne (λ (x : Standing). PlayThroughPromise text x)
+  pub play-through : (text : List ℕ) (most : ℕ) → ExactlyOne (λ (x : Standing). PlayThroughPromise text most x)
   pub draw : (form : Form) (rec : Record) (mem : List ℕ) (size : Size) (lit : Bool) (out : List ℕ)
       → ExactlyOne (λ (x : Written × List ℕ). DrawPromise form rec mem size lit out (x .0) (x .1))
   pub yaropesk-reset : (bytes mem : List ℕ)
