@@ -76,7 +76,7 @@ fn show(options: Options, standing: Standing) {
 
 // Plays a session, tells of a bad line, and draws what was played so far.
 fn play_and_show(options: Options, text: &[u8]) {
-    let standing = play_through(text);
+    let standing = play_through(text, u64::MAX);
     let answer = standing.answer;
     if number(answer) != 0 {
         let form = options.form;
