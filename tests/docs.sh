@@ -61,11 +61,11 @@ spans docs/PROMISES.md docs/READING.md > "$work/spans"
 all_in 'no such must-fail edit' "$work/edits_named" "$work/edits"
 all_in 'a must-fail edit that PROMISES.md and READING.md do not name' "$work/edits" "$work/spans"
 
-# --- Paths: words with a slash. What is under target/ is built, and need not be there.
+# --- Paths: words with a slash. What is under target/ is built, and need not be there; I/D is a setting of the controller.
 {
     spans README.md docs/*.md
     sed -n 's/^    \([.a-z]\)/\1/p' README.md docs/*.md
-} | tr ' ' '\n' | grep -E '^[A-Za-z.][A-Za-z0-9_.*-]*/[A-Za-z0-9_.*/-]*$' | grep -v '^target/' > "$work/paths"
+} | tr ' ' '\n' | grep -E '^[A-Za-z.][A-Za-z0-9_.*-]*/[A-Za-z0-9_.*/-]*$' | grep -vE '^(target/|I/D$)' > "$work/paths"
 sort -u "$work/paths" | existing > "$work/paths_there"
 all_in 'no such file or folder' "$work/paths" "$work/paths_there"
 for document in README.md docs/*.md examples/README.md rust/README.md; do

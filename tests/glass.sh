@@ -24,10 +24,14 @@ for words in tests/glass/*.words; do
 done
 
 # Words that cannot be followed: what is allowed is told on standard error, and nothing is drawn.
-echo 'glass: allowed are COLUMNS LINES, 1 to 40 and 1 or 2 (16 2 where none are given), and --pbm or --cells' > "$work/allowed"
+cat > "$work/allowed" << 'EOF'
+glass: these words cannot be followed. Allowed are COLUMNS LINES (1 to 40, 1 or 2; without them 16 2),
+--until TRANSFERS (0 to 99999) and one of --dots, --blocks, --text, --cells and --pbm
+EOF
 : > "$work/empty"
 for words in '0 1' '41 2' '16 0' '16 3' '16' '20 2 1' '-1 2' '1a 2' '016 2' 'x' '--bmp' '--pbm --cellss' '--pbm --cells' \
-    '--cells --cells' '20 2 --cells --'; do
+    '--cells --cells' '--dots --dots' '--text --blocks' '20 2 --cells --' '--until' '--until x' '--until 7x' '--until 100000' \
+    '--until 999999999' '--until --text' '--until 1 --until 2'; do
     # shellcheck disable=SC2086
     timeout 20 "$program" $words < examples/hello.session > "$work/got" 2> "$work/errors"
     same "told of: $words" "$work/errors" "$work/allowed"
@@ -46,6 +50,23 @@ printf 'P4\n0392 0080\n' > "$work/want"
 same "a bitmap's head" "$work/head" "$work/want"
 [ "$(wc -c < "$work/got")" -eq 3933 ]
 count 'a bitmap of 8 x 1 has 3,933 bytes' $?
+
+# Refusals beside a bitmap are told on standard error; where there are none, nothing is told.
+timeout 20 "$program" 8 1 --pbm < examples/too_early.session > "$work/got" 2> "$work/errors"
+echo '7 transfers, 2 refused, the first in line 1: busy' > "$work/want"
+same 'refusals beside a bitmap' "$work/errors" "$work/want"
+[ "$(wc -c < "$work/got")" -eq 3933 ]
+count 'a bitmap beside refusals has 3,933 bytes' $?
+
+# On a terminal the usual form is that of block characters.
+if command -v script > /dev/null; then
+    script -qc "timeout 20 $program < examples/hello.session" /dev/null < /dev/null | tr -d '\r' > "$work/got"
+    same 'block characters on a terminal' "$work/got" tests/glass/hello_blocks.out
+    script -qc "timeout 20 $program --dots < examples/hello.session" /dev/null < /dev/null | tr -d '\r' > "$work/got"
+    same 'dots on a terminal' "$work/got" tests/glass/hello.out
+else
+    echo 'glass: no script is found, so nothing is drawn on a terminal'
+fi
 
 # 65,537 bytes: one line, and nothing else.
 awk 'BEGIN { for (i = 1; i <= 9362; i++) printf "S\t00\t0\n"; printf "S\t0" }' > "$work/long"

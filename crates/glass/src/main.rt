@@ -1,5 +1,6 @@
 // The program `glass`: reads a session from standard input, plays it, and draws the panel as it then stands on standard output.
 mod options;
+mod refusals;
 
 use controller::number;
 use dots::Size;
@@ -16,6 +17,7 @@ use options::are_good;
 use options::read_options;
 use player::Standing;
 use player::play_through;
+use refusals::tell_refusals;
 
 // The longest session, as for the session program.
 const LIMIT: usize = 65_536;
@@ -29,19 +31,38 @@ const OUTPUT: usize = 65_536;
 fn tell_usage() {
     io::write_all(
         STDERR_FILENO,
-        b"glass: allowed are COLUMNS LINES, 1 to 40 and 1 or 2 (16 2 where none are given), and --pbm or --cells\n",
+        b"glass: these words cannot be followed. Allowed are COLUMNS LINES (1 to 40, 1 or 2; without them 16 2),\n",
     );
+    io::write_all(
+        STDERR_FILENO,
+        b"--until TRANSFERS (0 to 99999) and one of --dots, --blocks, --text, --cells and --pbm\n",
+    );
+}
+
+// On a terminal block characters, which fit its width; elsewhere dots, which any program can read.
+fn usual_form() -> Form {
+    if libc::isatty(STDOUT_FILENO) == 1 {
+        return Form::Blocks;
+    }
+    Form::Dots
+}
+
+fn is_bitmap(form: Form) -> bool {
+    match form {
+        Form::Dots => false,
+        Form::Blocks => false,
+        Form::Letters => false,
+        Form::Bitmap => true,
+        Form::Cells => false,
+    }
 }
 
 // A bitmap is to be alone on standard output, so that a viewer can read it.
 fn place_for_words(form: Form) -> i32 {
-    match form {
-        Form::Dots => STDOUT_FILENO,
-        Form::Blocks => STDOUT_FILENO,
-        Form::Letters => STDOUT_FILENO,
-        Form::Bitmap => STDERR_FILENO,
-        Form::Cells => STDOUT_FILENO,
+    if is_bitmap(form) {
+        return STDERR_FILENO;
     }
+    STDOUT_FILENO
 }
 
 // The bad line that ended a session, as the session program tells it: the header, and its row.
@@ -55,7 +76,7 @@ fn tell_bad_line(form: Form, number: u64, answer: u8, busy: u32) {
     io::write_all(place, first(&row, written.length));
 }
 
-// Draws the panel in the lit phase; a size that no glass has is told with what is allowed.
+// Draws the panel in the lit phase, and tells of refusals; a size that no glass has is told with what is allowed.
 fn show(options: Options, standing: Standing) {
     let mut out = [0u8; OUTPUT];
     let form = options.form;
@@ -72,11 +93,15 @@ fn show(options: Options, standing: Standing) {
         return;
     }
     io::write_all(STDOUT_FILENO, first(&out, drawn.length));
+    if is_bitmap(form) && standing.refusals == 0 {
+        return;
+    }
+    tell_refusals(place_for_words(form), standing);
 }
 
 // Plays a session, tells of a bad line, and draws what was played so far.
 fn play_and_show(options: Options, text: &[u8]) {
-    let standing = play_through(text, u64::MAX);
+    let standing = play_through(text, options.until);
     let answer = standing.answer;
     if number(answer) != 0 {
         let form = options.form;
@@ -86,7 +111,7 @@ fn play_and_show(options: Options, text: &[u8]) {
 }
 
 fn main() {
-    let options = read_options();
+    let options = read_options(usual_form());
     if !are_good(options) {
         tell_usage();
         return;

@@ -1,6 +1,6 @@
 //! Document 01, "Session lines": the session program.
 
-use super::{read_line, record_after_reset, reset, transfer};
+use super::{is_refusal, read_line, record_after_reset, reset, transfer};
 use super::{Answer, Line, Record, DONE, MEMORY};
 
 /// "reads standard input up to 65,536 bytes".
@@ -37,6 +37,11 @@ pub struct Played {
     pub report: String,
     /// Where in the report the row of the bad line begins, if there was one.
     pub bad_row: Option<usize>,
+    /// The transfers that were played, and those of them that were refused.
+    pub transfers: usize,
+    pub refused: usize,
+    /// The line of the first refused transfer, and its answer.
+    pub first_refused: Option<(usize, Answer)>,
 }
 
 impl Played {
@@ -49,6 +54,9 @@ impl Played {
             mem,
             report: String::from(HEADER),
             bad_row: None,
+            transfers: 0,
+            refused: 0,
+            first_refused: None,
         }
     }
 
@@ -63,10 +71,15 @@ impl Played {
 
 /// Plays a text of any length, with a reader and a transfer of the caller's.
 pub fn play(text: &[u8], read: Reader, step: Step) -> Played {
+    play_until(text, usize::MAX, read, step)
+}
+
+/// The same of at most so many transfers: what is after them is not looked at.
+pub fn play_until(text: &[u8], until: usize, read: Reader, step: Step) -> Played {
     let mut played = Played::start();
     let mut rest = text;
     let mut number = 1;
-    while !rest.is_empty() {
+    while !rest.is_empty() && number <= until {
         let (read_answer, line) = read(rest);
         // "A bad line prints its number, answer 12, byte 00 and the busy as it
         // stands, and ends it."
@@ -79,6 +92,11 @@ pub fn play(text: &[u8], read: Reader, step: Step) -> Played {
         let (answer, byte, rec) = step(played.rec, &mut played.mem, kind, byte, wait);
         played.rec = rec;
         played.row(number, answer, byte);
+        played.transfers = number;
+        if is_refusal(answer) {
+            played.refused += 1;
+            played.first_refused.get_or_insert((number, answer));
+        }
         rest = &rest[line.length..];
         number += 1;
     }
