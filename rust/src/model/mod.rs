@@ -23,7 +23,7 @@ pub use plan::{little_endian, transfer_bytes, transfers_of};
 pub use plan::{plan, Wish, PLAN_BYTES, TRANSFER_BYTES};
 pub use record::{address, is_sound, place, record_after_reset, reset, Counter, Half, Record};
 pub use record::{DISPLAY_CELLS, LONGEST_BUSY, MEMORY, PATTERN_CELLS};
-pub use session::{play, play_until, session, session_with, Played, Reader, Step};
+pub use session::{play, play_until, session, session_with, told, Played, Reader, Step};
 pub use session::{HEADER, SESSION_BYTES, TOO_LONG};
 pub use transfer::{is_read, transfer, Transfer, LONG_TIME, SHORT_TIME};
 pub use transfer::{DATA_READ, DATA_WRITE, INSTRUCTION_WRITE, KINDS, STATUS_READ};

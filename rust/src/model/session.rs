@@ -30,6 +30,33 @@ pub fn session_with(text: &[u8], read: Reader, step: Step) -> Vec<u8> {
     play(text, read, step).report.into_bytes()
 }
 
+/// What a program tells on standard error of a text with this report: that it is too
+/// long, its bad line, or nothing.
+pub fn told(program: &str, report: &[u8]) -> String {
+    if report == TOO_LONG {
+        return format!(
+            "{program}: the session is longer than 65,536 bytes, the most that is taken. \
+             Nothing was played.\n"
+        );
+    }
+    let Some(number) = bad_line(report) else {
+        return String::new();
+    };
+    format!(
+        "{program}: line {number} is not a session line. A line is I, D, S or R, a tab, \
+         two hex digits in capitals (00 for S and R), a tab, the wait in microseconds \
+         without leading zeros, up to 4294967295, and a newline: I<tab>38<tab>15000\n"
+    )
+}
+
+/// The number of the bad line that ends a report, if one does.
+fn bad_line(report: &[u8]) -> Option<&str> {
+    let report = std::str::from_utf8(report).ok()?;
+    let mut fields = report.lines().last()?.split('\t');
+    let number = fields.next()?;
+    (fields.next() == Some("12")).then_some(number)
+}
+
 /// A text of lines, played to its end or to its first bad line.
 pub struct Played {
     pub rec: Record,
