@@ -105,12 +105,16 @@ impl Drawing {
         };
         if text.len() > model::SESSION_BYTES {
             told.extend_from_slice(model::TOO_LONG);
+            let words = model::told("glass", model::TOO_LONG);
+            written.errors.extend(words.into_bytes());
             return written;
         }
         let played = model::play_until(text, until, self.model.read_line, self.model.transfer);
         if let Some(at) = played.bad_row {
             told.extend_from_slice(model::HEADER.as_bytes());
             told.extend_from_slice(&played.report.as_bytes()[at..]);
+            let words = model::told("glass", played.report.as_bytes());
+            written.errors.extend(words.into_bytes());
         }
         let refused = self.refused(&played);
         if form == Form::Bitmap {

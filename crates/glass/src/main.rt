@@ -1,4 +1,5 @@
 // The program `glass`: reads a session from standard input, plays it, and draws the panel as it then stands on standard output.
+// What ended or spoilt the run is told on standard error.
 mod options;
 mod refusals;
 
@@ -7,7 +8,6 @@ use dots::Size;
 use drawing::Form;
 use drawing::draw;
 use libc::STDERR_FILENO;
-use libc::STDIN_FILENO;
 use libc::STDOUT_FILENO;
 use lines::first;
 use lines::write_header;
@@ -18,25 +18,36 @@ use options::read_options;
 use player::Standing;
 use player::play_through;
 use refusals::tell_refusals;
-
-// The longest session, as for the session program.
-const LIMIT: usize = 65_536;
-
-// A session and one byte more, by which a longer one shows.
-const INPUT: usize = 65_537;
+use telling::INPUT;
+use telling::LIMIT;
+use telling::read_input;
+use telling::tell;
+use telling::tell_bad_line;
+use telling::tell_too_long;
+use telling::tell_unread;
+use telling::tell_unwritten;
 
 // More than any drawing takes.
 const OUTPUT: usize = 65_536;
 
 fn tell_usage() {
-    io::write_all(
-        STDERR_FILENO,
-        b"glass: these words cannot be followed. Allowed are COLUMNS LINES (1 to 40, 1 or 2; without them 16 2),\n",
+    tell(
+        b"glass",
+        b"these words cannot be followed. Allowed are COLUMNS LINES (1 to 40, 1 or 2; without them 16 2),",
     );
-    io::write_all(
-        STDERR_FILENO,
-        b"--until TRANSFERS (0 to 99999) and one of --dots, --blocks, --text, --cells and --pbm\n",
+    tell(
+        b"glass",
+        b"--until TRANSFERS (0 to 99999) and one of --dots, --blocks, --text, --cells and --pbm",
     );
+}
+
+// Writes all of a text, or tells that it could not.
+fn is_written(place: i32, text: &[u8]) -> bool {
+    if io::write_all(place, text) {
+        return true;
+    }
+    tell_unwritten(b"glass");
+    false
 }
 
 // On a terminal block characters, which fit its width; elsewhere dots, which any program can read.
@@ -65,8 +76,8 @@ fn place_for_words(form: Form) -> i32 {
     STDOUT_FILENO
 }
 
-// The bad line that ended a session, as the session program tells it: the header, and its row.
-fn tell_bad_line(form: Form, number: u64, answer: u8, busy: u32) {
+// The bad line that ended a session, as the session program tells it: the header and its row, and words.
+fn tell_end(form: Form, number: u64, answer: u8, busy: u32) {
     let mut head = [0u8; 20];
     let mut row = [0u8; 42];
     let place = place_for_words(form);
@@ -74,6 +85,7 @@ fn tell_bad_line(form: Form, number: u64, answer: u8, busy: u32) {
     let written = write_row(number, answer, 0, busy, &mut row);
     io::write_all(place, &head);
     io::write_all(place, first(&row, written.length));
+    tell_bad_line(b"glass", number);
 }
 
 // Draws the panel in the lit phase, and tells of refusals; a size that no glass has is told with what is allowed.
@@ -92,7 +104,9 @@ fn show(options: Options, standing: Standing) {
         tell_usage();
         return;
     }
-    io::write_all(STDOUT_FILENO, first(&out, drawn.length));
+    if !is_written(STDOUT_FILENO, first(&out, drawn.length)) {
+        return;
+    }
     if is_bitmap(form) && standing.refusals == 0 {
         return;
     }
@@ -105,7 +119,7 @@ fn play_and_show(options: Options, text: &[u8]) {
     let answer = standing.answer;
     if number(answer) != 0 {
         let form = options.form;
-        tell_bad_line(form, standing.number, number(answer), standing.rec.busy);
+        tell_end(form, standing.number, number(answer), standing.rec.busy);
     }
     show(options, standing);
 }
@@ -117,11 +131,17 @@ fn main() {
         return;
     }
     let mut input = [0u8; INPUT];
-    let length = io::read_full(STDIN_FILENO, &mut input);
-    if LIMIT < length {
-        let form = options.form;
-        io::write_all(place_for_words(form), b"too long\n");
+    let got = read_input(&mut input);
+    if got.failed {
+        tell_unread(b"glass");
         return;
     }
-    play_and_show(options, &input[..length]);
+    let length = got.length;
+    if LIMIT < length {
+        let form = options.form;
+        is_written(place_for_words(form), b"too long\n");
+        tell_too_long(b"glass");
+        return;
+    }
+    play_and_show(options, first(&input, length));
 }
