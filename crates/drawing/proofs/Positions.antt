@@ -59,6 +59,12 @@ caret-of dots mem rec grid line column l k =
     let half : (line * 2 + 1) / 2 ≡ line = omega arith in
     byte-of-column dots mem rec grid (line * 2 + 1) column (omega arith) k ∙ simp (odd, half)
 
+-- what stands there is decided by the counter and the cell shown
+caret-is : (rec : Record) (line column : ℕ)
+    → caretAt rec line column ≡ cond (counterShown (rec .counter) (cellAt (rec .function .n) (rec .shift) line column)) (code "^") (code " ")
+unfolding caretAt
+caret-is rec line column = refl
+
 -- a caret is drawn where the test holds and nowhere else
 caret-tells : (b : Bool) → cond b (code "^") (code " ") ≡ code "^" → b ≡ true
 caret-tells true is = refl
@@ -76,14 +82,13 @@ on-shown (Pattern at) (Cell cell) is = absurd (false≢true is)
 on-shown counter Undriven is = absurd (false≢true is)
 
 pub caret-in-place : CaretInPlace
-unfolding caretAt
 caret-in-place dots mem rec grid line column l k = (there, here)
   where
     there : drawnByte Letters dots mem rec grid ((line * 2 + 1) * (grid .size .columns + 3) + (column + 1)) ≡ code "^" → ShowsCounter rec line column
     there is =
         let on = on-shown (rec .counter) (cellAt (rec .function .n) (rec .shift) line column)
-        (caret-tells _ (sym (caret-of dots mem rec grid line column l k) ∙ is)) in
+        (caret-tells _ (sym (caret-is rec line column) ∙ (sym (caret-of dots mem rec grid line column l k) ∙ is))) in
         record { cell = on .cell; counter = on .counter-is; shown = on .shown-is }
 
     here : ShowsCounter rec line column → drawnByte Letters dots mem rec grid ((line * 2 + 1) * (grid .size .columns + 3) + (column + 1)) ≡ code "^"
-    here shows = caret-of dots mem rec grid line column l k ∙ simp (shows .counter, shows .shown, eq-eqb (shows .cell) (shows .cell) refl)
+    here shows = caret-of dots mem rec grid line column l k ∙ (caret-is rec line column ∙ simp (shows .counter, shows .shown, eq-eqb (shows .cell) (shows .cell) refl))
