@@ -61,11 +61,11 @@ spans docs/PROMISES.md docs/READING.md > "$work/spans"
 all_in 'no such must-fail edit' "$work/edits_named" "$work/edits"
 all_in 'a must-fail edit that PROMISES.md and READING.md do not name' "$work/edits" "$work/spans"
 
-# --- Paths: words with a slash. What is under target/ is built, and need not be there.
+# --- Paths: words with a slash. What is under target/ is built, and need not be there; I/D is a setting of the controller.
 {
     spans README.md docs/*.md
     sed -n 's/^    \([.a-z]\)/\1/p' README.md docs/*.md
-} | tr ' ' '\n' | grep -E '^[A-Za-z.][A-Za-z0-9_.*-]*/[A-Za-z0-9_.*/-]*$' | grep -v '^target/' > "$work/paths"
+} | tr ' ' '\n' | grep -E '^[A-Za-z.][A-Za-z0-9_.*-]*/[A-Za-z0-9_.*/-]*$' | grep -vE '^(target/|I/D$)' > "$work/paths"
 sort -u "$work/paths" | existing > "$work/paths_there"
 all_in 'no such file or folder' "$work/paths" "$work/paths_there"
 for document in README.md docs/*.md examples/README.md rust/README.md; do
@@ -81,8 +81,13 @@ for main in crates/*/src/main.rt; do
 done > "$work/programs"
 all_in 'no such program' "$work/programs_named" "$work/programs"
 
-# --- Public functions: each has its heading in PROMISES.md, or its row.
-sed -n 's/^pub use .*::\([a-z][a-z0-9_]*\);/\1/p' crates/*/src/lib.rt > "$work/functions"
+# --- Public functions: each has its heading in PROMISES.md, or its row. What a crate that stands on libc reads and writes no
+# contract can say: such a library is a part of the programs.
+awk -F ': ' '/^[a-z]/ && !/ libc( |$)/ { sub(/:.*/, "", $1); print "crates/" $1 "/src/lib.rt" }' crates.txt \
+    | existing > "$work/libraries"
+# Their names hold no blanks.
+# shellcheck disable=SC2046
+sed -n 's/^pub use .*::\([a-z][a-z0-9_]*\);/\1/p' $(cat "$work/libraries") > "$work/functions"
 {
     grep '^### ' docs/PROMISES.md | spans | sed 's/(.*//'
     # shellcheck disable=SC2016
@@ -100,10 +105,11 @@ promise='function promise_of(name, words, count, made, i) {
     for (i = 1; i <= count; i++) made = made toupper(substr(words[i], 1, 1)) substr(words[i], 2)
     return made "Promise"
 }'
+# shellcheck disable=SC2046
 awk "$promise"'/^pub use .*::[a-z][a-z0-9_]*;/ {
     split(FILENAME, folder, "/"); split($3, part, /::|;/)
     print folder[2] "::" part[1] "::" part[2], folder[2] "::" promise_of(part[2])
-}' crates/*/src/lib.rt > "$work/public"
+}' $(cat "$work/libraries") > "$work/public"
 cut -d ' ' -f 2 "$work/public" > "$work/predicates_named"
 awk '/^abbrev pub [A-Za-z0-9]*Promise :/ { split(FILENAME, folder, "/"); print folder[2] "::" $3 }' \
     crates/*/specs/Promises.antt > "$work/predicates"

@@ -1,6 +1,7 @@
 #!/bin/sh
 # Runs target/bin/session on every tests/session/NAME.in and compares what it writes with NAME.out; then on what no file
-# can show: long input, input in pieces, and standard input or output that is closed or full.
+# can show: long input, input in pieces, and standard input or output that is closed, full or cannot be read. What is told on
+# standard error is compared as well.
 # Prints 'session: N passed, M failed', and fails where M is not 0.
 set -u
 cd "$(dirname "$0")/.." || exit 1
@@ -9,17 +10,38 @@ suite=session
 . tests/common.sh
 is_built "$program" session
 
+# What is told of the bad line of a report, if it has one: its number, and what a line looks like.
+told_of() {
+    awk -F '\t' '$2 == 12 {
+        print "session: line " $1 " is not a session line. A line is I, D, S or R, a tab, two hex digits in capitals" \
+            " (00 for S and R), a tab, the wait in microseconds without leading zeros, up to 4294967295, and a newline:" \
+            " I<tab>38<tab>15000"
+    }' "$1"
+}
+
+# A session and the report that it must have: what is on standard output, and what is told of a bad line.
+plays() {
+    timeout 20 "$program" < "$1" > "$work/got" 2> "$work/errors"
+    same "$1" "$work/got" "$2"
+    told_of "$2" > "$work/told"
+    same "$1: what is told" "$work/errors" "$work/told"
+}
+
 for input in tests/session/*.in; do
-    name=$(basename "$input" .in)
-    timeout 20 "$program" < "$input" > "$work/got"
-    same "$name" "$work/got" "tests/session/$name.out"
+    plays "$input" "${input%.in}.out"
 done
 
 # Each example beside its report.
 for input in examples/*.session; do
-    timeout 20 "$program" < "$input" > "$work/got"
-    same "$input" "$work/got" "${input%.session}.report"
+    plays "$input" "${input%.session}.report"
 done
+
+# A bad line in words, written out once.
+printf 'I\t38\t15000\nS\t00\t0\nD\t4g\t0\nS\t00\t0\n' > "$work/bad"
+printf 'no\tanswer\tbyte\tbusy\n1\t0\t00\t40\n2\t0\t80\t40\n3\t12\t00\t40\n' > "$work/bad_report"
+plays "$work/bad" "$work/bad_report"
+grep -q '^session: line 3 is not a session line\. A line is ' "$work/errors"
+count 'a bad line is told with its number' $?
 
 # 9,362 lines in 65,536 bytes: status reads at once after reset, and the last one after 100 microseconds.
 awk 'BEGIN { for (i = 1; i < 9362; i++) printf "S\t00\t0\n"; printf "S\t00\t100\n" }' > "$work/full"
@@ -30,8 +52,7 @@ awk 'BEGIN {
     for (i = 1; i < 9362; i++) print i "\t0\t80\t10000"
     print "9362\t0\t80\t9900"
 }' > "$work/full_report"
-timeout 20 "$program" < "$work/full" > "$work/got"
-same '9,362 lines in 65,536 bytes' "$work/got" "$work/full_report"
+plays "$work/full" "$work/full_report"
 # A pipe is wanted here, and not the file.
 # shellcheck disable=SC2002
 cat "$work/full" | timeout 20 "$program" > "$work/got"
@@ -40,16 +61,18 @@ same '9,362 lines through a pipe' "$work/got" "$work/full_report"
 # 4,096 lines of 16 bytes, the longest, in 65,536 bytes.
 awk 'BEGIN { for (i = 1; i <= 4096; i++) printf "D\t41\t4294967295\n" }' > "$work/wide"
 awk 'BEGIN { print "no\tanswer\tbyte\tbusy"; for (i = 1; i <= 4096; i++) print i "\t0\t00\t40" }' > "$work/want"
-timeout 20 "$program" < "$work/wide" > "$work/got"
-same '4,096 lines of 16 bytes'
+plays "$work/wide" "$work/want"
 
 # One byte more than 65,536, and far more, from a file and from a pipe: one line, and nothing else.
 echo 'too long' > "$work/want"
+echo 'session: the session is longer than 65,536 bytes, the most that is taken. Nothing was played.' > "$work/told"
 { cat "$work/full"; printf 'S'; } > "$work/long"
-timeout 20 "$program" < "$work/long" > "$work/got"
+timeout 20 "$program" < "$work/long" > "$work/got" 2> "$work/errors"
 same '65,537 bytes'
-cat "$work/full" "$work/full" "$work/full" | timeout 20 "$program" > "$work/got"
+same '65,537 bytes: what is told' "$work/errors" "$work/told"
+cat "$work/full" "$work/full" "$work/full" | timeout 20 "$program" > "$work/got" 2> "$work/errors"
 same '196,608 bytes through a pipe'
+same '196,608 bytes through a pipe: what is told' "$work/errors" "$work/told"
 
 # A session that comes in pieces, one of them empty and none of them a line.
 {
@@ -58,20 +81,37 @@ same '196,608 bytes through a pipe'
 printf 'no\tanswer\tbyte\tbusy\n1\t0\t00\t40\n2\t0\t80\t40\n' > "$work/want"
 same 'input in pieces'
 
-# Closed standard input: the header alone.
-printf 'no\tanswer\tbyte\tbusy\n' > "$work/want"
-timeout 20 "$program" <&- > "$work/got"
+# Standard input that cannot be read: no report, so that none is taken for a whole one.
+: > "$work/want"
+echo 'session: standard input could not be read to its end. Nothing was played.' > "$work/told"
+timeout 20 "$program" <&- > "$work/got" 2> "$work/errors"
 same 'closed standard input'
+same 'closed standard input: what is told' "$work/errors" "$work/told"
+timeout 20 "$program" < tests > "$work/got" 2> "$work/errors"
+same 'a folder as standard input'
+same 'a folder as standard input: what is told' "$work/errors" "$work/told"
+timeout 20 "$program" 0> "$work/written" > "$work/got" 2> "$work/errors"
+same 'standard input opened for writing'
+same 'standard input opened for writing: what is told' "$work/errors" "$work/told"
 
-# Standard output closed or on a full disk: it ends, with status 0.
-timeout 20 "$program" < "$work/full" >&-
+# Standard output closed or on a full disk: it is told, and the program ends, with status 0.
+echo 'session: standard output could not be written. What stands there is not whole.' > "$work/told"
+timeout 20 "$program" < "$work/full" >&- 2> "$work/errors"
 count 'closed standard output' $?
+same 'closed standard output: what is told' "$work/errors" "$work/told"
 if [ -c /dev/full ]; then
-    timeout 20 "$program" < "$work/full" > /dev/full
+    timeout 20 "$program" < "$work/full" > /dev/full 2> "$work/errors"
     count 'a full disk' $?
+    same 'a full disk: what is told' "$work/errors" "$work/told"
+    timeout 20 "$program" < "$work/bad" > /dev/full 2> "$work/errors"
+    told_of "$work/bad_report" >> "$work/told"
+    same 'a full disk and a bad line: what is told' "$work/errors" "$work/told"
 fi
 
-closed_pipe "$work/full" "$program"
+# A closed pipe ends it quietly.
+closed_pipe "$work/full" "$program" 2> "$work/errors"
+[ ! -s "$work/errors" ]
+count 'a closed pipe: nothing is told' $?
 
 # A pipe that is read slowly gets the whole report.
 timeout 20 "$program" < "$work/full" | { sleep 0.3; cat; } > "$work/got"

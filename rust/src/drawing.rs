@@ -1,5 +1,5 @@
-//! What the program `glass` writes, on the model: a panel as text in a frame, as a
-//! bitmap or as a list of its cells.
+//! What the program `glass` writes, on the model: a panel as dots in a frame, as block
+//! characters, as letters, as a bitmap or as a list of its cells.
 //!
 //! Written from README.md ("See the glass"), the stored drawings under tests/glass/ and
 //! document 01 alone, apart from the proved code.
@@ -11,20 +11,31 @@ use crate::programs::Written;
 
 #[derive(Clone, Copy, Debug, PartialEq, Eq)]
 pub enum Form {
-    Text,
+    Dots,
+    Blocks,
+    Letters,
     Bitmap,
     Cells,
 }
 
-pub const FORMS: [Form; 3] = [Form::Text, Form::Bitmap, Form::Cells];
+pub const FORMS: [Form; 5] = [
+    Form::Dots,
+    Form::Blocks,
+    Form::Letters,
+    Form::Bitmap,
+    Form::Cells,
+];
 
 impl Form {
-    /// The word that asks for it. Text need not be asked for.
-    pub fn word(self) -> Option<&'static str> {
+    /// The word that asks for it. Where no terminal is written to, dots need not be asked
+    /// for.
+    pub fn word(self) -> &'static str {
         match self {
-            Form::Text => None,
-            Form::Bitmap => Some("--pbm"),
-            Form::Cells => Some("--cells"),
+            Form::Dots => "--dots",
+            Form::Blocks => "--blocks",
+            Form::Letters => "--text",
+            Form::Bitmap => "--pbm",
+            Form::Cells => "--cells",
         }
     }
 }
@@ -43,9 +54,13 @@ pub enum Dot {
 /// The places of a glass, row by row.
 pub type Grid = Vec<Vec<Dot>>;
 
-/// Functions with the shapes of `grid`, `pixels`, `is_shown` and `state` below.
+/// Functions with the shapes of `grid`, `pixels`, `block`, `reads`, `is_counter`,
+/// `is_shown` and `state` below.
 pub type Gridder = fn(&[u8], Size) -> Grid;
 pub type Inker = fn(Dot) -> [u8; 8];
+pub type Blocker = fn([bool; 4]) -> char;
+pub type Speller = fn(&Played, u8, u8) -> char;
+pub type Pointer = fn(&Record, u8, u8) -> bool;
 pub type Watcher = fn(&Record, Size, u8) -> bool;
 pub type Teller = fn(&Record) -> String;
 
@@ -55,6 +70,9 @@ pub struct Drawing {
     pub model: Model,
     pub grid: Gridder,
     pub pixels: Inker,
+    pub block: Blocker,
+    pub reads: Speller,
+    pub is_counter: Pointer,
     pub is_shown: Watcher,
     pub state: Teller,
 }
@@ -64,6 +82,9 @@ pub const DRAWING: Drawing = Drawing {
     model: MODEL,
     grid,
     pixels,
+    block,
+    reads,
+    is_counter,
     is_shown,
     state,
 };
@@ -73,30 +94,61 @@ pub const DRAWING: Drawing = Drawing {
 // ---------------------------------------------------------------------------
 
 impl Drawing {
-    /// What the program `glass` writes for a session.
-    pub fn program(&self, text: &[u8], size: Size, form: Form) -> Written {
+    /// What the program `glass` writes for a session, of which at most so many transfers
+    /// are played.
+    pub fn program(&self, text: &[u8], size: Size, form: Form, until: usize) -> Written {
         let mut written = Written::default();
         // Words beside a bitmap go elsewhere, so that it stands alone.
         let told = match form {
             Form::Bitmap => &mut written.errors,
-            Form::Text | Form::Cells => &mut written.output,
+            _ => &mut written.output,
         };
         if text.len() > model::SESSION_BYTES {
             told.extend_from_slice(model::TOO_LONG);
+            let words = model::told("glass", model::TOO_LONG);
+            written.errors.extend(words.into_bytes());
             return written;
         }
-        let played = model::play(text, self.model.read_line, self.model.transfer);
+        let played = model::play_until(text, until, self.model.read_line, self.model.transfer);
         if let Some(at) = played.bad_row {
             told.extend_from_slice(model::HEADER.as_bytes());
             told.extend_from_slice(&played.report.as_bytes()[at..]);
+            let words = model::told("glass", played.report.as_bytes());
+            written.errors.extend(words.into_bytes());
         }
-        written.output.extend(self.drawn(&played, size, form));
+        let refused = self.refused(&played);
+        if form == Form::Bitmap {
+            if played.refused > 0 {
+                written.errors.extend(refused.into_bytes());
+            }
+            written.output.extend(self.drawn(&played, size, form));
+        } else {
+            written.output.extend(self.drawn(&played, size, form));
+            written.output.extend(refused.into_bytes());
+        }
         written
+    }
+
+    /// "how many transfers were refused, and the first of them in words".
+    fn refused(&self, played: &Played) -> String {
+        let played_all = match played.transfers {
+            1 => String::from("1 transfer"),
+            many => format!("{many} transfers"),
+        };
+        match played.first_refused {
+            None => format!("{played_all}, none refused\n"),
+            Some((line, answer)) => {
+                let (refused, words) = (played.refused, model::words(answer));
+                format!("{played_all}, {refused} refused, the first in line {line}: {words}\n")
+            }
+        }
     }
 
     fn drawn(&self, played: &Played, size: Size, form: Form) -> Vec<u8> {
         match form {
-            Form::Text => self.text(played, size).into_bytes(),
+            Form::Dots => self.dots(played, size).into_bytes(),
+            Form::Blocks => self.blocks(played, size).into_bytes(),
+            Form::Letters => self.letters(played, size).into_bytes(),
             Form::Bitmap => self.bitmap(&self.glass(played, size)),
             Form::Cells => self.cells(played, size).into_bytes(),
         }
@@ -112,19 +164,62 @@ impl Drawing {
     }
 
     // -----------------------------------------------------------------------
-    // Text in a frame
+    // Dots and blocks in a frame
     // -----------------------------------------------------------------------
 
     /// The dots in a frame, "with the state below".
-    fn text(&self, played: &Played, size: Size) -> String {
+    fn dots(&self, played: &Played, size: Size) -> String {
         let grid = self.glass(played, size);
         let edge = format!("+{}+\n", "-".repeat(grid[0].len()));
         let mut text = edge.clone();
         for row in grid {
-            let places: String = row.into_iter().map(letter).collect();
+            let places: String = row.into_iter().map(dot_letter).collect();
             text.push_str(&format!("|{places}|\n"));
         }
         text + &edge + &(self.state)(&played.rec)
+    }
+
+    /// The dots as "block characters, two dots to a character in each direction".
+    fn blocks(&self, played: &Played, size: Size) -> String {
+        let grid = self.glass(played, size);
+        let is_lit = |x: usize, y: usize| {
+            let place = grid.get(y).and_then(|row| row.get(x));
+            place == Some(&Dot::Lit)
+        };
+        let (wide, high) = (grid[0].len().div_ceil(2), grid.len().div_ceil(2));
+        let edge = "─".repeat(wide);
+        let mut text = format!("┌{edge}┐\n");
+        for y in (0..high).map(|row| row * 2) {
+            let four = |x| [(x, y), (x + 1, y), (x, y + 1), (x + 1, y + 1)];
+            let blocks = (0..wide).map(|column| four(column * 2).map(|(x, y)| is_lit(x, y)));
+            let row: String = blocks.map(self.block).collect();
+            text.push_str(&format!("│{row}│\n"));
+        }
+        text + &format!("└{edge}┘\n") + &(self.state)(&played.rec)
+    }
+
+    // -----------------------------------------------------------------------
+    // Letters
+    // -----------------------------------------------------------------------
+
+    /// "what the glass reads as plain text", each line between bars, and under it "`^`
+    /// under the cell that the counter stands on".
+    fn letters(&self, played: &Played, size: Size) -> String {
+        let mut text = String::new();
+        for line in 0..size.lines {
+            let letters = (0..size.columns).map(|column| (self.reads)(played, line, column));
+            let carets = (0..size.columns).map(|column| {
+                let is_there = (self.is_counter)(&played.rec, line, column);
+                if is_there {
+                    '^'
+                } else {
+                    ' '
+                }
+            });
+            let (letters, carets): (String, String) = (letters.collect(), carets.collect());
+            text.push_str(&format!("|{letters}|\n {carets} \n"));
+        }
+        text + &(self.state)(&played.rec)
     }
 
     // -----------------------------------------------------------------------
@@ -153,13 +248,18 @@ impl Drawing {
     // -----------------------------------------------------------------------
 
     /// "all 144 cells are listed as hexadecimal, those display cells that this glass does
-    /// not show marked `*`", sixteen to a line.
+    /// not show marked `*`", sixteen to a line, and the display cells "as letters too".
     fn cells(&self, played: &Played, size: Size) -> String {
         let mut text = String::from("display cells marked * are not on this glass\n");
         let shown = |cell: usize| (self.is_shown)(&played.rec, size, cell as u8);
         let (display, pattern) = played.mem.split_at(usize::from(DISPLAY_CELLS));
-        text.push_str(&listed("display", display, |cell| !shown(cell)));
-        text.push_str(&listed("pattern", pattern, |_| false));
+        let as_letters = |cells: &[u8]| {
+            let letters: String = cells.iter().map(|&code| letter(code)).collect();
+            format!("|{letters}|")
+        };
+        let nothing = |_: &[u8]| " ".repeat(18);
+        text.push_str(&listed("display", display, |cell| !shown(cell), as_letters));
+        text.push_str(&listed("pattern", pattern, |_| false, nothing));
         text + &(self.state)(&played.rec)
     }
 }
@@ -192,7 +292,7 @@ fn five_dots(byte: u8) -> [Dot; 5] {
     })
 }
 
-fn letter(dot: Dot) -> char {
+fn dot_letter(dot: Dot) -> char {
     match dot {
         Dot::Lit => '#',
         Dot::Dark => '.',
@@ -209,6 +309,52 @@ pub fn pixels(dot: Dot) -> [u8; 8] {
     }
 }
 
+/// A block character with these quarters filled: upper left, upper right, lower left, lower
+/// right. Where none is, a blank that is three bytes long as the others are.
+pub fn block([upper_left, upper_right, lower_left, lower_right]: [bool; 4]) -> char {
+    match (upper_left, upper_right, lower_left, lower_right) {
+        (false, false, false, false) => '\u{2002}',
+        (true, false, false, false) => '▘',
+        (false, true, false, false) => '▝',
+        (false, false, true, false) => '▖',
+        (false, false, false, true) => '▗',
+        (true, true, false, false) => '▀',
+        (false, false, true, true) => '▄',
+        (true, false, true, false) => '▌',
+        (false, true, false, true) => '▐',
+        (true, false, false, true) => '▚',
+        (false, true, true, false) => '▞',
+        (true, true, true, false) => '▛',
+        (true, true, false, true) => '▜',
+        (true, false, true, true) => '▙',
+        (false, true, true, true) => '▟',
+        (true, true, true, true) => '█',
+    }
+}
+
+/// What a position reads as: a blank where D=0 and where its line is not driven.
+pub fn reads(played: &Played, line: u8, column: u8) -> char {
+    match model::shown_cell(&played.rec, line, column) {
+        Some(cell) if played.rec.d => letter(played.mem[usize::from(cell)]),
+        _ => ' ',
+    }
+}
+
+/// "Codes 20h to 7Dh read as ASCII has them, a pattern as `~`", and "the rest is blank".
+pub fn letter(code: u8) -> char {
+    match code {
+        0x00..=0x0F => '~',
+        0x20..=0x7D => char::from(code),
+        _ => ' ',
+    }
+}
+
+/// Does this position show the cell that the counter stands on?
+pub fn is_counter(rec: &Record, line: u8, column: u8) -> bool {
+    let cell = model::shown_cell(rec, line, column);
+    cell.map(Counter::Display) == Some(rec.counter)
+}
+
 /// Does some position of the glass show this display cell? "position p shows cell
 /// (p + shift) modulo L of its line. N=0 drives line 1 only". D is not looked at.
 pub fn is_shown(rec: &Record, size: Size, cell: u8) -> bool {
@@ -217,7 +363,12 @@ pub fn is_shown(rec: &Record, size: Size, cell: u8) -> bool {
     })
 }
 
-fn listed(name: &str, cells: &[u8], is_marked: impl Fn(usize) -> bool) -> String {
+fn listed(
+    name: &str,
+    cells: &[u8],
+    is_marked: impl Fn(usize) -> bool,
+    told: impl Fn(&[u8]) -> String,
+) -> String {
     let mut text = String::new();
     for (line, sixteen) in cells.chunks(16).enumerate() {
         let first = line * 16;
@@ -226,21 +377,23 @@ fn listed(name: &str, cells: &[u8], is_marked: impl Fn(usize) -> bool) -> String
             let mark = if is_marked(first + at) { '*' } else { ' ' };
             text.push_str(&format!(" {mark}{byte:02X}"));
         }
-        text.push('\n');
+        text.push_str(&format!("  {}\n", told(sixteen)));
     }
     text
 }
 
-/// "`counter` is the cell that the next data write goes to", "`half` the half transfer
-/// that waits: the letter of its kind and its bits". Each field has its place, however
-/// long it is.
+/// The settings, and what moves. "`counter` is the cell that the next data write goes to",
+/// "with its address", "`half` the half transfer that waits: the letter of its kind and its
+/// bits". Each field has its place, however long it is.
 pub fn state(rec: &Record) -> String {
     let lines = if rec.n { 2 } else { 1 };
     let display = if rec.d { "on" } else { "off" };
+    let [f, c, b, id, s] = [rec.f, rec.c, rec.b, rec.id, rec.s].map(u8::from);
     let (memory, cell) = match rec.counter {
         Counter::Display(cell) => ("display", cell),
         Counter::Pattern(cell) => ("pattern", cell),
     };
+    let address = model::address(rec.n, rec.counter);
     let half = match rec.half {
         Half::None => String::from("none"),
         Half::InstructionWrite(high) => format!("I {:02X}", high << 4),
@@ -248,9 +401,10 @@ pub fn state(rec: &Record) -> String {
         Half::StatusRead(byte) => format!("S {byte:02X}"),
         Half::DataRead(byte) => format!("R {byte:02X}"),
     };
-    let (shift, busy) = (rec.shift, rec.busy);
+    let (width, shift, busy) = (rec.width, rec.shift, rec.busy);
     format!(
-        "lines {lines}  display {display:<3}  counter {memory} {cell:>2}  \
+        "width {width}  lines {lines}  F {f}  display {display:<3}  C {c}  B {b}  I/D {id}  S {s}\n\
+         counter {memory} cell {cell:>2}, address {address:02X}h  \
          shift {shift:>2}  busy {busy:>5}  half {half}\n"
     )
 }

@@ -14,18 +14,24 @@ pub static SHAPES: LazyLock<[u8; FONT]> = LazyLock::new(|| read_sheet(SHEET));
 fn read_sheet(sheet: &str) -> [u8; FONT] {
     let mut shapes = [0; FONT];
     for block in sheet.split("\n\n") {
-        let mut lines = block.lines().map(str::split_whitespace);
-        let codes: Vec<usize> = lines.next().map_or(Vec::new(), |line| {
-            line.map(|code| usize::from_str_radix(code, 16).expect("a code in hex"))
-                .collect()
-        });
+        let mut lines = block.lines();
+        let codes = lines.next().map_or(Vec::new(), codes_of);
         for (row, line) in lines.enumerate() {
-            for (&code, dots) in codes.iter().zip(line) {
+            for (&code, dots) in codes.iter().zip(line.split_whitespace()) {
                 shapes[code * SHAPE_ROWS + row] = five_dots(dots);
             }
         }
     }
     shapes
+}
+
+/// Each column is seven places wide, and its code stands in the last two, behind a letter.
+fn codes_of(line: &str) -> Vec<usize> {
+    let places: Vec<char> = line.chars().collect();
+    let codes = places.chunks(7).map(|column| column[5..].iter().collect());
+    codes
+        .map(|code: String| usize::from_str_radix(&code, 16).expect("a code in hex"))
+        .collect()
 }
 
 fn five_dots(dots: &str) -> u8 {

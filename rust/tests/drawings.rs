@@ -6,21 +6,26 @@ use std::path::{Path, PathBuf};
 use yaropesk_model::drawing::{Form, DRAWING, FORMS, USUAL};
 use yaropesk_model::model::Size;
 
-/// The size and the form that the words ask for.
-fn wanted<'a>(words: impl Iterator<Item = &'a str>) -> (Size, Form) {
-    let mut form = Form::Text;
+/// The size, the form and the number of transfers that the words ask for.
+fn wanted<'a>(mut words: impl Iterator<Item = &'a str>) -> (Size, Form, usize) {
+    let mut form = Form::Dots;
+    let mut until = usize::MAX;
     let mut numbers = Vec::new();
-    for word in words {
-        match FORMS.into_iter().find(|form| form.word() == Some(word)) {
-            Some(asked) => form = asked,
-            None => numbers.push(word.parse().expect("a number")),
+    while let Some(word) = words.next() {
+        if let Some(asked) = FORMS.into_iter().find(|form| form.word() == word) {
+            form = asked;
+        } else if word == "--until" {
+            let most = words.next().expect("a number of transfers");
+            until = most.parse().expect("a number");
+        } else {
+            numbers.push(word.parse().expect("a number"));
         }
     }
     let size = match numbers[..] {
         [columns, lines] => Size::new(columns, lines),
         _ => USUAL,
     };
-    (size, form)
+    (size, form, until)
 }
 
 fn stored_words(root: &Path) -> Vec<PathBuf> {
@@ -41,8 +46,8 @@ fn stored_drawings_are_drawn() {
         let mut words = words.split_whitespace();
         let session = root.join(words.next().expect("a session"));
         let text = fs::read(session).expect("a session's text");
-        let (size, form) = wanted(words);
-        let written = DRAWING.program(&text, size, form);
+        let (size, form, until) = wanted(words);
+        let written = DRAWING.program(&text, size, form, until);
         let drawn = fs::read(path.with_extension("out")).expect("a drawing");
         assert!(written.output == drawn, "{}", path.display());
     }

@@ -1,2 +1,4 @@
 pub mod Laws
+pub mod Filled
+pub mod Positions
 pub mod Theorems

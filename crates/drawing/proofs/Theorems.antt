@@ -2,22 +2,28 @@
 -- Assumes nothing.
 use mathlib.Core.Bool.{Bool, true, false, cond}
 use mathlib.Core.Path.{_≡_, refl, sym, ap, _∙_}
-use Prim.Native.Nat.{ℕ, _+_, _-_, _*_, _≤_, _<_}
-use native.Mathlib.Nat.{mul-add, mul-one}
+use Prim.Native.Nat.{ℕ, _+_, _-_, _*_, _%_, _≤_, _<_}
+use native.Mathlib.Nat.{mod-eq-of-lt, mul-add, mul-one}
 use native.Mathlib.Omega.{arith}
 use borrow.Author.Tests.{ne-eqb}
 use lib.ListN.{length, replicate}
+use Rattle.controller.specs.declared.cells.Counter.the-variants.{Display, Pattern}
 use Rattle.controller.specs.Answers.{isRefusal}
+use Rattle.controller.specs.Cells.{addressOf, addressSet}
+use Rattle.controller.proofs.Laws.Cells.{address-below, on-display, on-pattern}
 use Rattle.dots.specs.Geometry.{height, pictureRoom}
 use Rattle.dots.proofs.Answers.{passed}
 use Rattle.dots.proofs.Places.{column-of-place, row-of-place}
 use Rattle.dots.proofs.Theorems.{answers-given, each-byte}
 use Rattle.lines.specs.declared.writer.Written.{Written}
 use Rattle.drawing.specs.declared.grid.Grid.{Grid}
-use Rattle.drawing.specs.declared.drawing.Form.the-variants.{Text, Bitmap, Cells}
+use Rattle.drawing.specs.declared.drawing.Form.the-variants.{Blocks, Dots, Letters, Bitmap, Cells}
 use Rattle.drawing.specs.Grid.{byteOf, isBetween, isLit, lastX, lastY}
+use Rattle.drawing.specs.Blocks.{blocksLength, blocksWidth}
+use Rattle.drawing.specs.Letters.{lettersLength, lettersWidth}
 use Rattle.drawing.specs.Drawing.{answering, bitmapLength, drawnLength, frameLength, frameWidth, gridFor}
-use Rattle.drawing.specs.Theorems.{DotsInPlace, DrawAnswers, DrawFits, DrawRefusals, OneDrawing}
+use Rattle.drawing.specs.State.{addressShown}
+use Rattle.drawing.specs.Theorems.{AddressTold, DotsInPlace, DrawAnswers, DrawFits, DrawRefusals, OneDrawing}
 
 -- a place in a character is between none
 inside-character : (grid : Grid) (line row column dot : ℕ) → row < grid .rows → 1 ≤ dot → dot ≤ 5
@@ -50,9 +56,18 @@ dots-in-place rec mem size lit line row column dot done l r k low high =
       each-byte rec mem size lit (replicate pictureRoom 0) line row column done l r k,
     )
 
+pub address-told : AddressTold
+unfolding addressShown addressSet addressOf
+address-told n (Display cell) on =
+    let same : cell % 80 ≡ cell = mod-eq-of-lt (on-display cell on) in
+    rw same (omega (arith, address-below n (Display cell) on))
+address-told n (Pattern cell) on = omega (arith, on-pattern cell on)
+
 pub draw-answers : DrawAnswers
-unfolding frameLength frameWidth bitmapLength lastX lastY height
-draw-answers Text rec mem size room = answers-given rec mem size _ room
+unfolding frameLength frameWidth blocksLength blocksWidth lettersLength lettersWidth bitmapLength lastX lastY height
+draw-answers Dots rec mem size room = answers-given rec mem size _ room
+draw-answers Blocks rec mem size room = answers-given rec mem size _ room
+draw-answers Letters rec mem size room = answers-given rec mem size _ room
 draw-answers Bitmap rec mem size room = answers-given rec mem size _ room
 draw-answers Cells rec mem size room = answers-given rec mem size _ room
 

@@ -1,4 +1,4 @@
--- The three forms of a drawing, byte by byte, and the call that draws, with its refusals in order.
+-- The forms of a drawing, byte by byte, and the call that draws, with its refusals in order.
 -- Assumes nothing.
 use mathlib.Core.Bool.{Bool, cond}
 use mathlib.Core.List.{List}
@@ -15,11 +15,13 @@ use Rattle.dots.specs.Geometry.{height, pictureRoom}
 use Rattle.dots.specs.Picture.{answerFor, output, outputLeft}
 use Rattle.lines.specs.declared.writer.Written.{Written}
 use Rattle.drawing.specs.declared.drawing.Form.{Form}
-use Rattle.drawing.specs.declared.drawing.Form.the-variants.{Text, Bitmap, Cells}
+use Rattle.drawing.specs.declared.drawing.Form.the-variants.{Blocks, Dots, Letters, Bitmap, Cells}
 use Rattle.drawing.specs.declared.grid.Grid.{Grid}
 use Rattle.drawing.specs.Grid.{lastX, lastY}
 use Rattle.drawing.specs.Frame.{frameAt}
+use Rattle.drawing.specs.Blocks.{blocksAt, blocksLength, blocksWidth}
 use Rattle.drawing.specs.Bitmap.{bitmapHead, headLength, pixelsAt}
+use Rattle.drawing.specs.Letters.{lettersAt, lettersLength, lettersWidth}
 use Rattle.drawing.specs.Listing.{legend, legendLength, listingAt, listingLength, listingWidth}
 use Rattle.drawing.specs.State.{stateByte, stateLength}
 
@@ -35,9 +37,11 @@ frameLength grid = frameWidth grid * (lastY grid + 1)
 unfoldable pub bitmapLength : Grid → ℕ
 bitmapLength grid = headLength + (lastX grid + 1) * ((lastY grid + 1) * 8)
 
--- The bytes of a drawing. Text and cells end with the state's line.
+-- The bytes of a drawing. All but the bitmap end with the state's lines.
 abbrev pub lengthOf : Form → Grid → ℕ
-lengthOf Text grid = frameLength grid + stateLength
+lengthOf Dots grid = frameLength grid + stateLength
+lengthOf Blocks grid = blocksLength grid + stateLength
+lengthOf Letters grid = lettersLength (grid .size) + stateLength
 lengthOf Bitmap grid = bitmapLength grid
 lengthOf Cells grid = legendLength + (listingLength + stateLength)
 
@@ -46,10 +50,22 @@ abbrev pub headByte : Grid → ℕ → ℕ
 headByte grid place = getD (bitmapHead grid) place 0
 
 -- The frame line by line, then the state.
-unfoldable pub textByte : List ℕ → Record → Grid → ℕ → ℕ
-textByte dots rec grid place =
+unfoldable pub frameByte : List ℕ → Record → Grid → ℕ → ℕ
+frameByte dots rec grid place =
     cond (ltb place (frameLength grid)) (frameAt dots grid (place % frameWidth grid) (place / frameWidth grid))
     (stateByte rec (place - frameLength grid))
+
+-- The block characters row by row, then the state.
+unfoldable pub blocksByte : List ℕ → Record → Grid → ℕ → ℕ
+blocksByte dots rec grid place =
+    cond (ltb place (blocksLength grid)) (blocksAt dots grid (place % blocksWidth grid) (place / blocksWidth grid))
+    (stateByte rec (place - blocksLength grid))
+
+-- The letters row by row, then the state.
+unfoldable pub lettersByte : List ℕ → Record → Size → ℕ → ℕ
+lettersByte mem rec size place =
+    cond (ltb place (lettersLength size)) (lettersAt mem rec size (place % lettersWidth size) (place / lettersWidth size))
+    (stateByte rec (place - lettersLength size))
 
 -- The head, then the pixels row by row.
 unfoldable pub bitmapByte : List ℕ → Grid → ℕ → ℕ
@@ -71,7 +87,9 @@ cellsByte mem rec size place =
 
 -- The byte at a place of a drawing.
 abbrev pub drawnByte : Form → List ℕ → List ℕ → Record → Grid → ℕ → ℕ
-drawnByte Text dots mem rec grid place = textByte dots rec grid place
+drawnByte Dots dots mem rec grid place = frameByte dots rec grid place
+drawnByte Blocks dots mem rec grid place = blocksByte dots rec grid place
+drawnByte Letters dots mem rec grid place = lettersByte mem rec (grid .size) place
 drawnByte Bitmap dots mem rec grid place = bitmapByte dots grid place
 drawnByte Cells dots mem rec grid place = cellsByte mem rec (grid .size) place
 

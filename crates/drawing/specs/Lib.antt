@@ -1,9 +1,12 @@
 pub mod Numbers
 pub mod Grid
 pub mod Frame
+pub mod Blocks
 pub mod Bitmap
+pub mod Letters
 pub mod Listing
 pub mod State
 pub mod Drawing
 pub mod Promises
+pub mod Quarters
 pub mod Theorems

@@ -1,5 +1,5 @@
 -- All 144 cells as hexadecimal, sixteen to a line: the display cells, then the pattern cells. A display cell that no position of
--- the glass shows is marked `*`.
+-- the glass shows is marked `*`, and behind sixteen display cells they stand as letters.
 -- Assumes nothing.
 use mathlib.Core.Bool.{Bool, cond, not, _&&_}
 use mathlib.Core.List.{List, _++_}
@@ -11,6 +11,7 @@ use Rattle.dots.specs.declared.geometry.Size.{Size}
 use Rattle.dots.specs.Geometry.{isShown}
 use Rattle.lines.specs.Digits.{digit, newline}
 use Rattle.lines.specs.Text.{bytesOf}
+use Rattle.drawing.specs.Letters.{letterFor}
 use Rattle.drawing.specs.Numbers.{twoWide}
 
 -- The cell at this place of the memory is a display cell that the glass does not show.
@@ -45,16 +46,29 @@ cellChar spare byte at =
 abbrev pub cellField : List ℕ → Bool → ℕ → Size → ℕ → ℕ → ℕ
 cellField mem n shift size place at = cellChar (isSpare n shift size place) (getD mem place 0) at
 
--- The byte of the listing at a column of a line: ten bytes of label, sixteen cells of four bytes, and a newline.
+-- The letters of a line's sixteen cells between bars, two blanks before them.
+unfoldable pub lettersField : List ℕ → ℕ → ℕ → ℕ
+lettersField mem line at =
+    cond (ltb at 2) (code " ")
+    (cond (eqb at 2) (code "|")
+    (cond (eqb at 19) (code "|")
+    (letterFor (getD mem (line * 16 + (at - 3)) 0))))
+
+-- What stands behind the cells: the letters of display cells. Pattern cells hold rows of dots and no text.
+unfoldable pub textColumn : List ℕ → ℕ → ℕ → ℕ
+textColumn mem line at = cond (ltb line 5) (lettersField mem line at) (code " ")
+
+-- The byte of the listing at a column of a line: ten bytes of label, sixteen cells of four bytes, the letters, and a newline.
 unfoldable pub listingAt : List ℕ → Bool → ℕ → Size → ℕ → ℕ → ℕ
 listingAt mem n shift size x line =
-    cond (eqb x 74) newline
+    cond (eqb x 94) newline
     (cond (ltb x 10) (getD (labelFor line) x 0)
-    (cellField mem n shift size (line * 16 + (x - 10) / 4) ((x - 10) % 4)))
+    (cond (ltb x 74) (cellField mem n shift size (line * 16 + (x - 10) / 4) ((x - 10) % 4))
+    (textColumn mem line (x - 74))))
 
--- A line of the listing: ten bytes of label, sixteen cells of four bytes, and a newline.
+-- A line of the listing: ten bytes of label, sixteen cells of four bytes, twenty bytes of letters, and a newline.
 abbrev pub listingWidth : ℕ
-listingWidth = 75
+listingWidth = 95
 
 -- The nine lines.
 abbrev pub listingLength : ℕ

@@ -1,23 +1,33 @@
--- What is proved of the drawings: each theorem is a type here, and its proof stands in proofs/Theorems.antt.
+-- What is proved of the drawings: each theorem is a type here, and its proof stands in proofs/Theorems.antt or, of the letters,
+-- in proofs/Positions.antt.
 -- Assumes nothing.
 use mathlib.Core.Bool.{Bool, true}
 use mathlib.Core.List.{List}
+use mathlib.Core.Logic.{_↔_}
 use mathlib.Core.Path.{_≡_}
-use Prim.Native.Nat.{ℕ, _+_, _*_, _≤_, _<_}
-use lib.ListN.{length}
+use Prim.Native.Char.{code}
+use Prim.Native.Nat.{ℕ, _+_, _*_, _/_, _≤_, _<_}
+use lib.ListN.{length, getD}
 use Rattle.controller.specs.declared.answers.Answer.the-variants.{Done}
+use Rattle.controller.specs.declared.cells.Counter.{Counter}
+use Rattle.controller.specs.declared.cells.Counter.the-variants.{Display}
 use Rattle.controller.specs.declared.«record».Record.{Record}
 use Rattle.controller.specs.Answers.{isRefusal, numberOf, Row, Tells}
+use Rattle.controller.specs.Cells.{addressOf, onCell}
+use Rattle.dots.specs.declared.geometry.Shown.the-variants.{Cell}
 use Rattle.dots.specs.declared.geometry.Size.{Size}
 use Rattle.dots.specs.Font.{font}
-use Rattle.dots.specs.Geometry.{height, pictureRoom}
+use Rattle.dots.specs.Geometry.{cellAt, height, pictureRoom}
 use Rattle.dots.specs.Picture.{answered, dotsAt}
 use Rattle.dots.specs.Theorems.{rowsFor}
 use Rattle.lines.specs.declared.writer.Written.{Written}
 use Rattle.drawing.specs.declared.drawing.Form.{Form}
-use Rattle.drawing.specs.declared.drawing.Form.the-variants.{Text, Bitmap, Cells}
+use Rattle.drawing.specs.declared.drawing.Form.the-variants.{Blocks, Dots, Letters, Bitmap, Cells}
+use Rattle.drawing.specs.declared.grid.Grid.{Grid}
 use Rattle.drawing.specs.Grid.{dotOf, isLit}
-use Rattle.drawing.specs.Drawing.{Drawn, answering, dotsOf, gridFor}
+use Rattle.drawing.specs.Letters.{letterFor}
+use Rattle.drawing.specs.Drawing.{Drawn, answering, dotsOf, drawnByte, gridFor}
+use Rattle.drawing.specs.State.{addressShown}
 
 -- Five columns of the grid for each column of the glass, and a row for each row of dots: the grid is lit where the picture's dot
 -- is, the dots counted from the left from 1.
@@ -29,12 +39,46 @@ DotsInPlace =
     → isLit (dotsOf rec mem size lit) (gridFor rec size) (column * 6 + dot) (line * (height (rec .function) + 1) + (row + 1))
     ≡ dotOf (dotsAt font rec mem lit line row column) dot
 
--- The bytes of a drawing, each character six dots wide and nine high with the gap beside it, in a frame: lines of text with
--- their ends, and the state's 74; a head of 13 and pixels eight rows high; or a listing of 794.
+-- The letters of the codes that ASCII and the font both have are ASCII's.
+abbrev pub LettersKept : Type 0
+LettersKept = (char : ℕ) → 0x20 ≤ char → char < 0x7E → letterFor char ≡ char
+
+-- With the display on, the letter of the cell that line l, column c of the glass shows stands in row 2 l of the text, column c
+-- behind its side.
+abbrev pub LettersInPlace : Type 0
+LettersInPlace =
+    (dots mem : List ℕ) (rec : Record) (grid : Grid) (line column cell : ℕ)
+    → line < grid .size .lines → column < grid .size .columns → rec .control .d ≡ true
+    → cellAt (rec .function .n) (rec .shift) line column ≡ Cell cell
+    → drawnByte Letters dots mem rec grid (line * 2 * (grid .size .columns + 3) + (column + 1)) ≡ letterFor (getD mem cell 0)
+
+-- This position of the glass shows the counter's cell.
+pub record ShowsCounter (rec : Record) (line column : ℕ) : Type 0 where
+  pub cell : ℕ
+  pub counter : rec .counter ≡ Display cell
+  pub shown : cellAt (rec .function .n) (rec .shift) line column ≡ Cell cell
+
+-- A caret stands in the row below it exactly where a position shows the counter's cell.
+abbrev pub CaretInPlace : Type 0
+CaretInPlace =
+    (dots mem : List ℕ) (rec : Record) (grid : Grid) (line column : ℕ)
+    → line < grid .size .lines → column < grid .size .columns
+    → (drawnByte Letters dots mem rec grid ((line * 2 + 1) * (grid .size .columns + 3) + (column + 1)) ≡ code "^")
+    ↔ ShowsCounter rec line column
+
+-- The address that the state tells is the counter's own, which a status read gives.
+abbrev pub AddressTold : Type 0
+AddressTold = (n : Bool) (counter : Counter) → onCell counter ≡ true → addressShown n counter ≡ addressOf n counter
+
+-- The bytes of a drawing, each character six dots wide and nine high with the gap beside it. All but the bitmap end with the
+-- state's 127. In a frame: lines of text with their ends; rows of block characters, three bytes each, two dots wide and high; two
+-- rows of letters for each line, three places wider than it. A head of 13 and pixels eight rows high. A listing of 900.
 abbrev pub bytesFor : Form → Size → ℕ
-bytesFor Text size = (size .columns * 6 + 2) * (size .lines * 9 + 1) + 74
+bytesFor Dots size = (size .columns * 6 + 2) * (size .lines * 9 + 1) + 127
+bytesFor Blocks size = ((size .columns * 3 + 2) * 3 + 1) * (size .lines * 9 / 2 + 2) + 127
+bytesFor Letters size = (size .columns + 3) * (size .lines * 2) + 127
 bytesFor Bitmap size = 13 + (size .columns * 6 + 1) * ((size .lines * 9 + 1) * 8)
-bytesFor Cells size = 794
+bytesFor Cells size = 900 + 127
 
 -- The rows of draw.
 abbrev pub drawRows : Form → Record → List ℕ → Size → ℕ → List Row

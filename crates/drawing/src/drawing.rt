@@ -1,19 +1,25 @@
-// The three forms of a drawing, byte by byte, and the public call with its refusals.
+// The forms of a drawing, byte by byte, and the public call with its refusals.
 ghost use mathlib.Core.Path.{_≡_};
 ghost use Prim.Native.Nat.{_≤_, _<_};
 ghost use lib.ListN.{length};
 ghost use Rattle.dots.specs.Picture.{painted};
 ghost use Rattle.drawing.specs.Drawing.{bitmapByte, bitmapLength, DrawnTaken, drawnByte, cellsByte, frameLength};
-ghost use Rattle.drawing.specs.Drawing.{frameWidth, headByte, lengthOf, listingByte, textByte};
+ghost use Rattle.drawing.specs.Drawing.{blocksByte, lettersByte, frameWidth, headByte, lengthOf, listingByte, frameByte};
 ghost use Rattle.drawing.specs.Grid.{Small};
 ghost use Rattle.drawing.specs.Promises.{DrawPromise};
 use crate::bitmap::bitmap_head;
 use crate::bitmap::pixels_at;
+use crate::blocks::blocks_at;
+use crate::blocks::blocks_length;
+use crate::blocks::blocks_width;
 use crate::frame::frame_at;
 use crate::grid::Grid;
 use crate::grid::byte_in;
 use crate::grid::last_x;
 use crate::grid::last_y;
+use crate::letters::letters_at;
+use crate::letters::letters_length;
+use crate::letters::letters_width;
 use crate::listing::legend_at;
 use crate::listing::listing_at;
 use crate::state::state_byte;
@@ -29,20 +35,23 @@ use lines::Written;
 // The length of the bitmap's head.
 const HEAD: usize = 13;
 
-// The length of the state's line.
-const STATE: usize = 74;
+// The length of the state's lines.
+const STATE: usize = 127;
 
 // A line of the listing, and the nine of them.
-const LISTING_WIDTH: usize = 75;
+const LISTING_WIDTH: usize = 95;
 
-const LISTING: usize = 675;
+const LISTING: usize = 855;
 
 // The length of what the marks mean.
 const LEGEND: usize = 45;
 
-// How a panel is drawn: its dots as text in a frame, or as a bitmap, or its cells listed.
+// How a panel is drawn: its dots in a frame or as block characters, what it reads as letters, its dots as a bitmap, or its cells
+// listed.
 pub enum Form {
-    Text,
+    Dots,
+    Blocks,
+    Letters,
     Bitmap,
     Cells,
 }
@@ -74,21 +83,50 @@ fn length_of(form: Form, grid: Grid) -> usize
     ensures { λ r. ⌜ r ≡ lengthOf form grid ⌝ }
 {
     match form {
-        Form::Text => frame_length(grid) + STATE,
+        Form::Dots => frame_length(grid) + STATE,
+        Form::Blocks => blocks_length(grid) + STATE,
+        Form::Letters => letters_length(grid) + STATE,
         Form::Bitmap => bitmap_length(grid),
         Form::Cells => LEGEND + (LISTING + STATE),
     }
 }
 
 // The frame line by line, then the state.
-fn text_byte(dots: &[u8], rec: Record, grid: Grid, place: usize) -> u8
+fn frame_byte(dots: &[u8], rec: Record, grid: Grid, place: usize) -> u8
     requires { ⌜ Small grid ⌝ }
-    ensures { λ r. ⌜ r ≡ textByte (now (dots .entry)) rec grid place ⌝ }
+    ensures { λ r. ⌜ r ≡ frameByte (now (dots .entry)) rec grid place ⌝ }
 {
     let length = frame_length(grid);
     if place < length {
         let width = frame_width(grid);
         return frame_at(dots, grid, place % width, place / width);
+    }
+    state_byte(rec, place - length)
+}
+
+// The block characters row by row, then the state.
+fn blocks_byte(dots: &[u8], rec: Record, grid: Grid, place: usize) -> u8
+    requires { ⌜ Small grid ⌝ }
+    ensures { λ r. ⌜ r ≡ blocksByte (now (dots .entry)) rec grid place ⌝ }
+{
+    let length = blocks_length(grid);
+    if place < length {
+        let width = blocks_width(grid);
+        return blocks_at(dots, grid, place % width, place / width);
+    }
+    state_byte(rec, place - length)
+}
+
+// The letters row by row, then the state.
+fn letters_byte(memory: &[u8], rec: Record, grid: Grid, place: usize) -> u8
+    requires { ⌜ Small grid ⌝ }
+    ensures { λ r. ⌜ r ≡ lettersByte (now (memory .entry)) rec (grid .size) place ⌝ }
+{
+    let length = letters_length(grid);
+    if place < length {
+        let size = grid.size;
+        let width = letters_width(size);
+        return letters_at(memory, rec, size, place % width, place / width);
     }
     state_byte(rec, place - length)
 }
@@ -146,7 +184,9 @@ fn drawn_byte(form: Form, dots: &[u8], memory: &[u8], rec: Record, grid: Grid, p
 {
     let size = grid.size;
     match form {
-        Form::Text => text_byte(dots, rec, grid, place),
+        Form::Dots => frame_byte(dots, rec, grid, place),
+        Form::Blocks => blocks_byte(dots, rec, grid, place),
+        Form::Letters => letters_byte(memory, rec, grid, place),
         Form::Bitmap => bitmap_byte(dots, grid, place),
         Form::Cells => cells_byte(memory, rec, size, place),
     }

@@ -1,8 +1,11 @@
-// A panel drawn for people: its dots as text in a frame, as a bitmap, or its cells listed, each written into a lent buffer.
+// A panel drawn for people: its dots in a frame, as block characters or as a bitmap, its letters, or its cells listed, each written
+// into a lent buffer.
 mod bitmap;
+mod blocks;
 mod drawing;
 mod frame;
 mod grid;
+mod letters;
 mod listing;
 mod numbers;
 mod state;

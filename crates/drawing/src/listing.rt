@@ -1,11 +1,12 @@
 // All 144 cells as hexadecimal, sixteen to a line: the display cells, then the pattern cells. A display cell that no position of
-// the glass shows is marked `*`.
+// the glass shows is marked `*`, and behind sixteen display cells they stand as letters.
 ghost use mathlib.Core.Path.{_≡_};
 ghost use Prim.Native.Nat.{_≤_};
 ghost use lib.ListN.{getD};
 ghost use Rattle.drawing.specs.Listing.{cellField, cellChar, displayLabel, isSpare, labelFor, legend, listingAt, markFor};
-ghost use Rattle.drawing.specs.Listing.{patternLabel};
+ghost use Rattle.drawing.specs.Listing.{lettersField, patternLabel, textColumn};
 use crate::grid::byte_in;
+use crate::letters::letter_for;
 use crate::numbers::two_wide;
 use dots::Size;
 use dots::is_shown;
@@ -100,26 +101,51 @@ fn cell_field(memory: &[u8], n: bool, shift: u8, size: Size, place: usize, at: u
     cell_char(is_spare(n, shift, size, place), byte_in(memory, place), at)
 }
 
-// The byte of the listing at a column of a line; past the last cell is the end of the line.
+// The letters of a line's sixteen cells between bars, two blanks before them.
+fn letters_field(memory: &[u8], line: usize, at: usize) -> u8
+    requires { ⌜ (line ≤ 255) × (at ≤ 255) ⌝ }
+    ensures { λ r. ⌜ r ≡ lettersField (now (memory .entry)) line at ⌝ }
+{
+    if at < 2 {
+        return b' ';
+    }
+    if at == 2 {
+        return b'|';
+    }
+    if at == 19 {
+        return b'|';
+    }
+    letter_for(byte_in(memory, line * 16 + (at - 3)))
+}
+
+// What stands behind the cells: the letters of display cells, and nothing behind pattern cells.
+fn text_column(memory: &[u8], line: usize, at: usize) -> u8
+    requires { ⌜ at ≤ 255 ⌝ }
+    ensures { λ r. ⌜ r ≡ textColumn (now (memory .entry)) line at ⌝ }
+{
+    if line < 5 {
+        return letters_field(memory, line, at);
+    }
+    b' '
+}
+
+// The byte of the listing at a column of a line; past the letters is the end of the line.
 pub fn listing_at(memory: &[u8], n: bool, shift: u8, size: Size, x: usize, line: usize) -> u8
     requires { ⌜ (x ≤ 255) × (line ≤ 255) ⌝ }
     ensures { λ r. ⌜ r ≡ listingAt (now (memory .entry)) n shift size x line ⌝ }
 {
-    if x == 74 {
+    if x == 94 {
         return b'\n';
     }
     if x < 10 {
         let label = label_for(line);
         return label[x];
     }
-    cell_field(
-        memory,
-        n,
-        shift,
-        size,
-        line * 16 + (x - 10) / 4,
-        (x - 10) % 4,
-    )
+    if x < 74 {
+        let place = line * 16 + (x - 10) / 4;
+        return cell_field(memory, n, shift, size, place, (x - 10) % 4);
+    }
+    text_column(memory, line, x - 74)
 }
 
 // A byte of what the marks mean.

@@ -1,9 +1,9 @@
-// One line with the state that a repairer asks for.
-ghost use mathlib.Core.List.{_++_};
+// Two lines with the state that a repairer asks for.
 ghost use mathlib.Core.Path.{_≡_};
 ghost use lib.ListN.{getD};
-ghost use Rattle.drawing.specs.State.{counterField, halfShown, lastFields, linesShown, memoryShown, onOff, readShown};
-ghost use Rattle.drawing.specs.State.{shownFields, stateByte, writeShown};
+ghost use Rattle.drawing.specs.State.{addressShown, bitShown, counterField, halfShown, lastFields, linesShown};
+ghost use Rattle.drawing.specs.State.{memoryShown, movingLine, onOff, readShown, settingsLine, stateByte};
+ghost use Rattle.drawing.specs.State.{widthShown, writeShown};
 use crate::grid::byte_in;
 use crate::numbers::four_wide;
 use crate::numbers::padded_digit;
@@ -11,6 +11,7 @@ use crate::numbers::two_wide;
 use controller::Counter;
 use controller::Half;
 use controller::Record;
+use controller::address_set;
 use controller::cell_of;
 use lines::hex_digit;
 
@@ -71,35 +72,74 @@ fn lines_shown(n: bool) -> u8
     b'1'
 }
 
-// The lines and the display.
-fn shown_fields(rec: Record) -> [u8; 20]
-    ensures { λ r. ⌜ r ≡ shownFields rec ⌝ }
+// The width.
+fn width_shown(wide: bool) -> u8
+    ensures { λ r. ⌜ r ≡ widthShown wide ⌝ }
+{
+    if wide {
+        return b'8';
+    }
+    b'4'
+}
+
+// A setting of one bit.
+fn bit_shown(bit: bool) -> u8
+    ensures { λ r. ⌜ r ≡ bitShown bit ⌝ }
+{
+    if bit {
+        return b'1';
+    }
+    b'0'
+}
+
+// The settings.
+fn settings_line(rec: Record) -> [u8; 57]
+    ensures { λ r. ⌜ r ≡ settingsLine rec ⌝ }
 {
     let on = on_off(rec.control.d);
-    let mut text = *b"lines 1  display off";
-    text[6] = lines_shown(rec.function.n);
-    text[17] = on[0];
-    text[18] = on[1];
-    text[19] = on[2];
+    let mut text = *b"width 8  lines 1  F 0  display off  C 0  B 0  I/D 1  S 0\n";
+    text[6] = width_shown(rec.wide);
+    text[15] = lines_shown(rec.function.n);
+    text[20] = bit_shown(rec.function.f);
+    text[31] = on[0];
+    text[32] = on[1];
+    text[33] = on[2];
+    text[38] = bit_shown(rec.control.c);
+    text[43] = bit_shown(rec.control.b);
+    text[50] = bit_shown(rec.entry.id);
+    text[55] = bit_shown(rec.entry.s);
     text
 }
 
-// The counter: its memory and its cell.
-fn counter_field(counter: Counter) -> [u8; 20]
-    ensures { λ r. ⌜ r ≡ counterField counter ⌝ }
+// The counter's address, which its address set has below the bit that names the memory.
+fn address_shown(n: bool, counter: Counter) -> u8
+    ensures { λ r. ⌜ r ≡ addressShown n counter ⌝ }
+{
+    match counter {
+        Counter::Display(_) => address_set(n, counter) % 0x80,
+        Counter::Pattern(_) => address_set(n, counter) % 0x40,
+    }
+}
+
+// The counter: its memory, its cell, and the cell's address.
+fn counter_field(n: bool, counter: Counter) -> [u8; 36]
+    ensures { λ r. ⌜ r ≡ counterField n counter ⌝ }
 {
     let name = memory_shown(counter);
     let cell = two_wide(cell_of(counter) as usize);
-    let mut text = *b"  counter display  0";
-    text[10] = name[0];
-    text[11] = name[1];
-    text[12] = name[2];
-    text[13] = name[3];
-    text[14] = name[4];
-    text[15] = name[5];
-    text[16] = name[6];
-    text[18] = cell[0];
-    text[19] = cell[1];
+    let address = address_shown(n, counter);
+    let mut text = *b"counter display cell  0, address 00h";
+    text[8] = name[0];
+    text[9] = name[1];
+    text[10] = name[2];
+    text[11] = name[3];
+    text[12] = name[4];
+    text[13] = name[5];
+    text[14] = name[6];
+    text[21] = cell[0];
+    text[22] = cell[1];
+    text[33] = hex_digit(address / 16);
+    text[34] = hex_digit(address % 16);
     text
 }
 
@@ -127,26 +167,26 @@ fn last_fields(rec: Record) -> [u8; 34]
     text
 }
 
-// A byte of the counter's field and of those after it.
-fn later_byte(rec: Record, place: usize) -> u8
-    ensures { λ r. ⌜ r ≡ getD (counterField (rec .counter) ++ lastFields rec) place 0 ⌝ }
+// A byte of the second line: the counter's field, then the others.
+fn moving_byte(rec: Record, place: usize) -> u8
+    ensures { λ r. ⌜ r ≡ getD (movingLine rec) place 0 ⌝ }
 {
-    if place < 20 {
+    if place < 36 {
         let counter = rec.counter;
-        let text = counter_field(counter);
+        let text = counter_field(rec.function.n, counter);
         return text[place];
     }
     let text = last_fields(rec);
-    byte_in(&text, place - 20)
+    byte_in(&text, place - 36)
 }
 
-// A byte of the state's line, whose fields stand at fixed places, so that two states can be compared one below the other.
+// A byte of the state's lines, whose fields stand at fixed places, so that two states can be compared one below the other.
 pub fn state_byte(rec: Record, place: usize) -> u8
     ensures { λ r. ⌜ r ≡ stateByte rec place ⌝ }
 {
-    if place < 20 {
-        let text = shown_fields(rec);
+    if place < 57 {
+        let text = settings_line(rec);
         return text[place];
     }
-    later_byte(rec, place - 20)
+    moving_byte(rec, place - 57)
 }

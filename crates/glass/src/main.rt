@@ -1,12 +1,13 @@
 // The program `glass`: reads a session from standard input, plays it, and draws the panel as it then stands on standard output.
+// What ended or spoilt the run is told on standard error.
 mod options;
+mod refusals;
 
 use controller::number;
 use dots::Size;
 use drawing::Form;
 use drawing::draw;
 use libc::STDERR_FILENO;
-use libc::STDIN_FILENO;
 use libc::STDOUT_FILENO;
 use lines::first;
 use lines::write_header;
@@ -16,34 +17,67 @@ use options::are_good;
 use options::read_options;
 use player::Standing;
 use player::play_through;
-
-// The longest session, as for the session program.
-const LIMIT: usize = 65_536;
-
-// A session and one byte more, by which a longer one shows.
-const INPUT: usize = 65_537;
+use refusals::tell_refusals;
+use telling::INPUT;
+use telling::LIMIT;
+use telling::read_input;
+use telling::tell;
+use telling::tell_bad_line;
+use telling::tell_too_long;
+use telling::tell_unread;
+use telling::tell_unwritten;
 
 // More than any drawing takes.
 const OUTPUT: usize = 65_536;
 
 fn tell_usage() {
-    io::write_all(
-        STDERR_FILENO,
-        b"glass: allowed are COLUMNS LINES, 1 to 40 and 1 or 2 (16 2 where none are given), and --pbm or --cells\n",
+    tell(
+        b"glass",
+        b"these words cannot be followed. Allowed are COLUMNS LINES (1 to 40, 1 or 2; without them 16 2),",
     );
+    tell(
+        b"glass",
+        b"--until TRANSFERS (0 to 99999) and one of --dots, --blocks, --text, --cells and --pbm",
+    );
+}
+
+// Writes all of a text, or tells that it could not.
+fn is_written(place: i32, text: &[u8]) -> bool {
+    if io::write_all(place, text) {
+        return true;
+    }
+    tell_unwritten(b"glass");
+    false
+}
+
+// On a terminal block characters, which fit its width; elsewhere dots, which any program can read.
+fn usual_form() -> Form {
+    if libc::isatty(STDOUT_FILENO) == 1 {
+        return Form::Blocks;
+    }
+    Form::Dots
+}
+
+fn is_bitmap(form: Form) -> bool {
+    match form {
+        Form::Dots => false,
+        Form::Blocks => false,
+        Form::Letters => false,
+        Form::Bitmap => true,
+        Form::Cells => false,
+    }
 }
 
 // A bitmap is to be alone on standard output, so that a viewer can read it.
 fn place_for_words(form: Form) -> i32 {
-    match form {
-        Form::Text => STDOUT_FILENO,
-        Form::Bitmap => STDERR_FILENO,
-        Form::Cells => STDOUT_FILENO,
+    if is_bitmap(form) {
+        return STDERR_FILENO;
     }
+    STDOUT_FILENO
 }
 
-// The bad line that ended a session, as the session program tells it: the header, and its row.
-fn tell_bad_line(form: Form, number: u64, answer: u8, busy: u32) {
+// The bad line that ended a session, as the session program tells it: the header and its row, and words.
+fn tell_end(form: Form, number: u64, answer: u8, busy: u32) {
     let mut head = [0u8; 20];
     let mut row = [0u8; 42];
     let place = place_for_words(form);
@@ -51,9 +85,10 @@ fn tell_bad_line(form: Form, number: u64, answer: u8, busy: u32) {
     let written = write_row(number, answer, 0, busy, &mut row);
     io::write_all(place, &head);
     io::write_all(place, first(&row, written.length));
+    tell_bad_line(b"glass", number);
 }
 
-// Draws the panel in the lit phase; a size that no glass has is told with what is allowed.
+// Draws the panel in the lit phase, and tells of refusals; a size that no glass has is told with what is allowed.
 fn show(options: Options, standing: Standing) {
     let mut out = [0u8; OUTPUT];
     let form = options.form;
@@ -69,32 +104,44 @@ fn show(options: Options, standing: Standing) {
         tell_usage();
         return;
     }
-    io::write_all(STDOUT_FILENO, first(&out, drawn.length));
+    if !is_written(STDOUT_FILENO, first(&out, drawn.length)) {
+        return;
+    }
+    if is_bitmap(form) && standing.refusals == 0 {
+        return;
+    }
+    tell_refusals(place_for_words(form), standing);
 }
 
 // Plays a session, tells of a bad line, and draws what was played so far.
 fn play_and_show(options: Options, text: &[u8]) {
-    let standing = play_through(text);
+    let standing = play_through(text, options.until);
     let answer = standing.answer;
     if number(answer) != 0 {
         let form = options.form;
-        tell_bad_line(form, standing.number, number(answer), standing.rec.busy);
+        tell_end(form, standing.number, number(answer), standing.rec.busy);
     }
     show(options, standing);
 }
 
 fn main() {
-    let options = read_options();
+    let options = read_options(usual_form());
     if !are_good(options) {
         tell_usage();
         return;
     }
     let mut input = [0u8; INPUT];
-    let length = io::read_full(STDIN_FILENO, &mut input);
-    if LIMIT < length {
-        let form = options.form;
-        io::write_all(place_for_words(form), b"too long\n");
+    let got = read_input(&mut input);
+    if got.failed {
+        tell_unread(b"glass");
         return;
     }
-    play_and_show(options, &input[..length]);
+    let length = got.length;
+    if LIMIT < length {
+        let form = options.form;
+        is_written(place_for_words(form), b"too long\n");
+        tell_too_long(b"glass");
+        return;
+    }
+    play_and_show(options, first(&input, length));
 }

@@ -1,13 +1,20 @@
-// What is asked for on the command line: the panel's size, and the form of the drawing.
+// What is asked for on the command line: the panel's size, the form of the drawing, and how many transfers are played.
 use check::same;
 use drawing::Form;
 
 pub struct Options {
     pub form: Form,
+    // Whether a form was asked for.
+    pub formed: bool,
     pub columns: u8,
     pub lines: u8,
     // How many numbers were given: columns, then lines.
     pub numbers: u8,
+    // At most so many transfers are played.
+    pub until: u64,
+    // Whether the word `--until` was given, and whether its number is still to come.
+    pub bounded: bool,
+    pub awaited: bool,
     // Whether each word was understood.
     pub understood: bool,
 }
@@ -16,7 +23,14 @@ pub struct Options {
 enum Word {
     Form(Form),
     Number(u8),
+    Until,
     Unknown,
+}
+
+// A number of transfers, or none.
+enum Count {
+    Of(u64),
+    Missing,
 }
 
 // What a digit is worth, and 10 where it is none.
@@ -41,13 +55,36 @@ fn number_from(tens: u8, ones: u8) -> Word {
     Word::Number(tens * 10 + ones)
 }
 
-fn word_of(text: &[u8]) -> Word {
-    if same(text, b"--pbm") {
-        return Word::Form(Form::Bitmap);
+// A number with one digit more, up to 99,999; no longer session has so many transfers.
+fn with_digit(number: u64, digit: u8) -> Count {
+    if 9_999 < number {
+        return Count::Missing;
     }
-    if same(text, b"--cells") {
-        return Word::Form(Form::Cells);
+    if 9 < digit {
+        return Count::Missing;
     }
+    Count::Of(number * 10 + digit as u64)
+}
+
+// The number that a word's digits say.
+fn count_from(text: &[u8]) -> Count {
+    let mut number = 0;
+    let mut at = 0;
+    while at < text.len() {
+        let next = with_digit(number, worth_of(text[at]));
+        let Count::Of(longer) = next else {
+            return Count::Missing;
+        };
+        number = longer;
+        at += 1;
+    }
+    if text.len() == 0 {
+        return Count::Missing;
+    }
+    Count::Of(number)
+}
+
+fn number_of(text: &[u8]) -> Word {
     if text.len() == 1 {
         return number_from(0, worth_of(text[0]));
     }
@@ -55,6 +92,28 @@ fn word_of(text: &[u8]) -> Word {
         return number_from(worth_of(text[0]), worth_of(text[1]));
     }
     Word::Unknown
+}
+
+fn word_of(text: &[u8]) -> Word {
+    if same(text, b"--dots") {
+        return Word::Form(Form::Dots);
+    }
+    if same(text, b"--blocks") {
+        return Word::Form(Form::Blocks);
+    }
+    if same(text, b"--text") {
+        return Word::Form(Form::Letters);
+    }
+    if same(text, b"--cells") {
+        return Word::Form(Form::Cells);
+    }
+    if same(text, b"--pbm") {
+        return Word::Form(Form::Bitmap);
+    }
+    if same(text, b"--until") {
+        return Word::Until;
+    }
+    number_of(text)
 }
 
 fn not_understood(options: Options) -> Options {
@@ -79,58 +138,85 @@ fn with_number(options: Options, number: u8) -> Options {
     not_understood(options)
 }
 
-fn is_text(form: Form) -> bool {
-    match form {
-        Form::Text => true,
-        Form::Bitmap => false,
-        Form::Cells => false,
+// A form can be asked for once.
+fn with_form(options: Options, form: Form) -> Options {
+    if options.formed {
+        return not_understood(options);
+    }
+    Options {
+        form,
+        formed: true,
+        ..options
     }
 }
 
-// Another form than text can be asked for once.
-fn with_form(options: Options, form: Form) -> Options {
-    let before = options.form;
-    if is_text(before) {
-        return Options { form, ..options };
+// `--until` can be given once, and its number is the next word.
+fn with_until(options: Options) -> Options {
+    if options.bounded {
+        return not_understood(options);
     }
-    not_understood(options)
+    let mut next = options;
+    next.bounded = true;
+    next.awaited = true;
+    next
 }
 
 fn with_word(options: Options, word: Word) -> Options {
     match word {
         Word::Form(form) => with_form(options, form),
         Word::Number(number) => with_number(options, number),
+        Word::Until => with_until(options),
         Word::Unknown => not_understood(options),
     }
 }
 
-// A word of the command line by its number. One that is longer than any that is known comes as an empty one.
-fn word_at(at: usize) -> Word {
-    let mut text = [0u8; 8];
-    let length = os::arg(at, &mut text);
-    word_of(&text[..length])
+fn with_count(options: Options, count: Count) -> Options {
+    match count {
+        Count::Of(number) => {
+            let mut next = options;
+            next.until = number;
+            next.awaited = false;
+            next
+        }
+        Count::Missing => not_understood(options),
+    }
 }
 
-// The words of the command line in turn.
-pub fn read_options() -> Options {
+// The options with a word of the command line by its number. One that is longer than any that is known comes as an empty one.
+fn with_word_at(options: Options, at: usize) -> Options {
+    let mut text = [0u8; 8];
+    let length = os::arg(at, &mut text);
+    if options.awaited {
+        return with_count(options, count_from(&text[..length]));
+    }
+    with_word(options, word_of(&text[..length]))
+}
+
+// The words of the command line in turn; where they ask for no form it is the usual one.
+pub fn read_options(usual: Form) -> Options {
     let mut options = Options {
-        form: Form::Text,
+        form: usual,
+        formed: false,
         columns: 16,
         lines: 2,
         numbers: 0,
+        until: u64::MAX,
+        bounded: false,
+        awaited: false,
         understood: true,
     };
     let count = os::arg_count();
     let mut at = 1;
     while at < count {
-        let next = with_word(options, word_at(at));
+        let next = with_word_at(options, at);
         options = next;
         at += 1;
     }
     options
 }
 
-// Whether the options can be followed: each word was understood, and columns and lines were given both or not at all.
+// Whether the options can be followed: each word was understood, columns and lines were given both or not at all, and `--until`
+// has its number.
 pub fn are_good(options: Options) -> bool {
-    options.understood && options.numbers != 1
+    options.understood && (options.numbers != 1 && !options.awaited)
 }

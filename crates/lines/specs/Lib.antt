@@ -4,5 +4,6 @@ pub mod Line
 pub mod Reading
 pub mod Writing
 pub mod ReportText
+pub mod Words
 pub mod Promises
 pub mod Theorems

@@ -4,12 +4,14 @@ use mathlib.Core.List.{List, [], _∷_}
 use mathlib.Core.Path.{_≡_}
 use Prim.Native.Nat.{ℕ}
 use lib.ListN.{take}
+use Rattle.controller.specs.declared.answers.Answer.{Answer}
 use Rattle.lines.specs.declared.reader.Line.{Line}
 use Rattle.lines.specs.declared.writer.Written.{Written}
 use Rattle.lines.specs.Digits.{decimal, digit, hexPair, worthOf}
 use Rattle.lines.specs.Reading.{lineOf}
 use Rattle.lines.specs.ReportText.{header, row, rowSize}
 use Rattle.lines.specs.Text.{put, putting}
+use Rattle.lines.specs.Words.{answerWords}
 use Rattle.lines.specs.Writing.{Writes, lineWriting, wanting}
 
 -- `read_line`: the line at the start of the text.
@@ -52,6 +54,10 @@ PutNumberPromise out at number returned after = put returned after ≡ putting (
 -- `put_hex`: as `put_text`, of the byte as two hex digits.
 abbrev pub PutHexPromise : List ℕ → ℕ → ℕ → ℕ → List ℕ → Type 0
 PutHexPromise out at byte returned after = put returned after ≡ putting (put at out) (hexPair byte)
+
+-- `put_answer`: as `put_text`, of the answer's words.
+abbrev pub PutAnswerPromise : List ℕ → ℕ → Answer → ℕ → List ℕ → Type 0
+PutAnswerPromise out at answer returned after = put returned after ≡ putting (put at out) (answerWords answer)
 
 -- `first`: the first bytes, so many, or all where there are fewer.
 abbrev pub FirstPromise : List ℕ → ℕ → List ℕ → Type 0

@@ -1,9 +1,10 @@
-// Session lines and the rows of a report, read and written as text; digits, and text put into a lent buffer. Document 01,
-// "Session lines".
+// Session lines and the rows of a report, read and written as text; digits, text and answers in words put into a lent buffer.
+// Document 01, "Session lines", "What each number says".
 mod digits;
 mod fields;
 mod reader;
 mod text;
+mod words;
 mod writer;
 
 pub use digits::hex_digit;
@@ -15,6 +16,7 @@ pub use text::put_byte;
 pub use text::put_hex;
 pub use text::put_number;
 pub use text::put_text;
+pub use words::put_answer;
 pub use writer::Written;
 pub use writer::write_header;
 pub use writer::write_line;

@@ -13,6 +13,6 @@ use Rattle.player.specs.Standing.{standing}
 abbrev pub PlayPromise : List ℕ → List ℕ → Written → List ℕ → Type 0
 PlayPromise text out returned after = Writes (playing text out) out returned after
 
--- `play_through`: how the text leaves the bench.
-abbrev pub PlayThroughPromise : List ℕ → Standing → Type 0
-PlayThroughPromise text returned = returned ≡ standing text
+-- `play_through`: how at most so many lines of the text leave the bench.
+abbrev pub PlayThroughPromise : List ℕ → ℕ → Standing → Type 0
+PlayThroughPromise text most returned = returned ≡ standing text most

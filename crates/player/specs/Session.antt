@@ -28,8 +28,7 @@ following t s = record { sent = t ∷ s .sent; end = s .end }
 abbrev pub sentOf : Line → Sent
 sentOf line = record { kind = line .kind; byte = line .byte; wait = line .wait }
 
--- The lines of a text, each where the one before it ended, up to a bad one. The first argument, the text's length or more,
--- only bounds the recursion: every line has some bytes.
+-- At most so many lines of a text, each where the one before it ended, up to a bad one. What is after them is not looked at.
 unfoldable pub readUpTo : ℕ → List ℕ → Session
 readUpTo zero text = endedBy Done
 readUpTo (suc k) [] = endedBy Done
@@ -38,6 +37,6 @@ readUpTo (suc k) (byte ∷ rest) =
     (following (sentOf (lineOf (byte ∷ rest))) (readUpTo k (drop (lineOf (byte ∷ rest) .length) (byte ∷ rest))))
     (endedBy (lineOf (byte ∷ rest) .answer))
 
--- A session's text, line by line.
+-- A session's text, line by line: every line has some bytes, so there are no more lines than bytes.
 unfoldable pub sessionOf : List ℕ → Session
 sessionOf text = readUpTo (length text) text

@@ -1,25 +1,26 @@
 -- What is proved of sessions and their reports: each theorem is a type here, and its proof stands in proofs/Theorems.
 -- Assumes nothing.
-use mathlib.Core.Bool.{true}
-use mathlib.Core.List.{List, [], _∷_, _++_}
-use mathlib.Core.Logic.{_⊎_}
+use mathlib.Core.Bool.{true, false}
+use mathlib.Core.List.{List, [], _∷_, _++_, map}
+use mathlib.Core.Logic.{_⊎_, _↔_}
 use mathlib.Core.Path.{_≡_}
 use Prim.Native.Nat.{ℕ, _+_, _*_, _^_, _<_, _≤_}
 use lib.ListN.{length}
+use Rattle.controller.specs.declared.answers.Answer.{Answer}
 use Rattle.controller.specs.declared.answers.Answer.the-variants.{Done, BadLine}
-use Rattle.controller.specs.Answers.{numberOf, Row, Tells}
+use Rattle.controller.specs.Answers.{isRefusal, numberOf, Row, Tells}
 use Rattle.controller.specs.Record.{sound}
 use Rattle.controller.specs.declared.sent.Sent.{Sent}
-use Rattle.controller.specs.Runs.{heard, ran}
+use Rattle.controller.specs.Runs.{State, Heard, decidedOf, heard, ran}
 use Rattle.lines.specs.declared.writer.Written.{Written}
 use Rattle.lines.specs.Line.{linesOf}
 use Rattle.lines.specs.ReportText.{header, row}
 use Rattle.lines.specs.Theorems.{AllSayable, Starts}
 use Rattle.lines.specs.Writing.{Writes}
 use Rattle.player.specs.declared.through.Standing.{Standing}
-use Rattle.player.specs.Session.{sessionOf}
+use Rattle.player.specs.Session.{readUpTo, sessionOf}
 use Rattle.player.specs.Report.{rowsFrom, start, report, reportSize, playing}
-use Rattle.player.specs.Standing.{standing}
+use Rattle.player.specs.Standing.{answersTo, countingAll, noRefusal, standing, stood}
 
 -- The lines of transfers are read as those transfers, and then what is after them.
 abbrev pub SessionReadsBack : Type 0
@@ -55,22 +56,35 @@ NoSession text = (ts : List Sent) → AllSayable ts → text ≡ linesOf ts → 
 unfoldable pub throughRows : List ℕ → List Row
 throughRows text = record { number = 12; applies = NoSession text } ∷ []
 
--- 12 is given exactly where the text is no session.
+-- So many lines reach the end of the text: it has fewer transfers, and what is after them is looked at too.
+abbrev pub Reaches : ℕ → List ℕ → Type 0
+Reaches most text = length (sessionOf text .sent) < most
+
+-- A number above the text's length reaches its end.
+abbrev pub LongReaches : Type 0
+LongReaches = (text : List ℕ) (most : ℕ) → length text < most → Reaches most text
+
+-- 12 is given exactly where the text is no session, if so many lines reach its end.
 abbrev pub ThroughAnswers : Type 0
-ThroughAnswers = (text : List ℕ) → Tells (numberOf (standing text .answer)) (throughRows text)
+ThroughAnswers = (text : List ℕ) (most : ℕ) → Reaches most text → Tells (numberOf (standing text most .answer)) (throughRows text)
+
+-- Lines of transfers, and as many asked for: they stand as they do alone, whatever is after them, a bad line too.
+abbrev pub MostStops : Type 0
+MostStops =
+    (ts : List Sent) (more : List ℕ) (most : ℕ) → AllSayable ts → Reaches most (linesOf ts)
+    → standing (linesOf ts ++ more) (length ts) ≡ standing (linesOf ts) most
 
 -- Lines of transfers, and then something that no line starts: the bad line. Its row has its number, answer 12, byte 00 and the
 -- busy as it stands, and ends the report; the bench stands as the transfers before it leave it.
-pub record BadLineTold (ts : List Sent) (text : List ℕ) : Type 0 where
+pub record BadLineTold (ts : List Sent) (text : List ℕ) (most : ℕ) : Type 0 where
   pub row : report text ≡ header ++ (rowsFrom 1 (heard start ts) ++ row (1 + length ts) 12 0x00 (ran start ts .rec .busy))
-  pub stands :
-      standing text
-      ≡ record { answer = BadLine; number = 1 + length ts; rec = ran start ts .rec; memory = ran start ts .mem }
+  pub stands : standing text most ≡ stood BadLine (1 + length ts) (ran start ts) (countingAll noRefusal 1 (answersTo start ts))
 
--- So with every bad line, wherever it stands.
+-- So with every bad line, wherever it stands, if so many lines reach it.
 abbrev pub BadLineEnds : Type 0
 BadLineEnds =
-    (ts : List Sent) (more : List ℕ) → AllSayable ts → 0 < length more → (Starts more → ⊥) → BadLineTold ts (linesOf ts ++ more)
+    (ts : List Sent) (more : List ℕ) (most : ℕ) → AllSayable ts → 0 < length more → (Starts more → ⊥) → length ts < most
+    → BadLineTold ts (linesOf ts ++ more) most
 
 -- No second answer fits.
 abbrev pub OnePlay : Type 0
@@ -80,9 +94,33 @@ OnePlay =
 
 -- And two standings that both are what play_through promises are one.
 abbrev pub OneStanding : Type 0
-OneStanding = (text : List ℕ) (a b : Standing) → a ≡ standing text → b ≡ standing text → a ≡ b
+OneStanding = (text : List ℕ) (most : ℕ) (a b : Standing) → a ≡ standing text most → b ≡ standing text most → a ≡ b
 
 -- Every text leaves a sound record and a memory of 144 bytes, so that no picture of it and no transfer after it is answered 1
 -- or 2.
 abbrev pub StandingTold : Type 0
-StandingTold = (text : List ℕ) → (sound (standing text .rec) ≡ true) × (length (standing text .memory) ≡ 144)
+StandingTold =
+    (text : List ℕ) (most : ℕ) → (sound (standing text most .rec) ≡ true) × (length (standing text most .memory) ≡ 144)
+
+-- The answers among which refusals are counted have the numbers that a report tells.
+abbrev pub AnswersHeard : Type 0
+AnswersHeard =
+    (state : State) (ts : List Sent) → map numberOf (answersTo state ts) ≡ map (λ (h : Heard). h .answer) (heard state ts)
+
+-- There are no refusals exactly where the first one's line is 0.
+abbrev pub NoneIsFirst : Type 0
+NoneIsFirst = (text : List ℕ) (most : ℕ) → (standing text most .refusals ≡ 0) ↔ (standing text most .first ≡ 0)
+
+-- None of these answers is a refusal.
+unfoldable pub NoneRefused : List Answer → Type 0
+NoneRefused [] = Unit {0}
+NoneRefused (answer ∷ answers) = (isRefusal answer ≡ false) × NoneRefused answers
+
+-- Where transfers that are played are not refused and the next one is, `first` is its line and `first_answer` its answer.
+abbrev pub FirstTold : Type 0
+FirstTold =
+    (text : List ℕ) (most : ℕ) (before : List Sent) (t : Sent) (later : List Sent)
+    → readUpTo most text .sent ≡ before ++ (t ∷ later)
+    → NoneRefused (answersTo start before) → isRefusal (decidedOf (ran start before) t .answer) ≡ true
+    → (standing text most .first ≡ 1 + length before)
+    × (standing text most .«first_answer» ≡ decidedOf (ran start before) t .answer)

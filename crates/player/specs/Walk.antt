@@ -3,7 +3,7 @@
 use mathlib.Core.Bool.{Bool, true, false, cond}
 use mathlib.Core.List.{List, []}
 use mathlib.Core.Path.{_≡_}
-use Prim.Native.Nat.{ℕ, _+_, _-_, _*_, _<_, _≤_}
+use Prim.Native.Nat.{ℕ, suc, _+_, _-_, _*_, _<_, _≤_}
 use lib.ListN.{length, drop}
 use lib.Seq.{sets}
 use Rattle.controller.specs.declared.answers.Answer.{Answer}
@@ -13,9 +13,9 @@ use Rattle.lines.specs.ReportText.{rowSize}
 use Rattle.player.specs.declared.through.Standing.{Standing}
 use Rattle.player.specs.declared.walk.Ended.{Ended}
 use Rattle.player.specs.declared.walk.Place.{Place}
-use Rattle.player.specs.Session.{Session, sessionOf}
+use Rattle.player.specs.Session.{Session, readUpTo}
 use Rattle.player.specs.Report.{rowsOf}
-use Rattle.player.specs.Standing.{leaving}
+use Rattle.player.specs.Standing.{leaving, stood}
 
 -- What is written of a report's text: all of it where rows are wanted, and else nothing.
 abbrev pub bytesWanted : Bool → List ℕ → List ℕ
@@ -34,24 +34,21 @@ pub record Walked : Type 0 where
 -- A walk that ends at this place with this answer.
 abbrev pub endedAt : Answer → Place → List ℕ → List ℕ → Walked
 endedAt answer place mem out =
-    record {
-      stands = record { answer = answer; number = place .number; rec = place .rec; memory = mem };
-      at = place .at;
-      out = out;
-    }
+    record { stands = stood answer (place .number) (stateAt place mem) (place .tally); at = place .at; out = out }
 
--- A session walked from this place on: its transfers run, its lines counted, and its rows written where they are wanted.
+-- A session walked from this place on: its transfers run, its lines and refusals counted, and its rows written where they are
+-- wanted.
 unfoldable pub walked : Bool → Place → List ℕ → List ℕ → Session → Walked
 walked rows place mem out session =
     record {
-      stands = leaving (place .number) (stateAt place mem) session;
+      stands = leaving (place .number) (place .tally) (stateAt place mem) session;
       at = place .at + length (bytesWanted rows (rowsOf (place .number) (stateAt place mem) session));
       out = sets out (place .at) (bytesWanted rows (rowsOf (place .number) (stateAt place mem) session));
     }
 
--- What is left of a text at this place, walked.
-abbrev pub walkedFrom : Bool → List ℕ → Place → List ℕ → List ℕ → Walked
-walkedFrom rows text place mem out = walked rows place mem out (sessionOf (drop (place .from) text))
+-- At most so many lines of what is left of a text at this place, walked.
+abbrev pub walkedFrom : Bool → ℕ → List ℕ → Place → List ℕ → List ℕ → Walked
+walkedFrom rows most text place mem out = walked rows place mem out (readUpTo most (drop (place .from) text))
 
 -- The rows of so many bytes of text, and one row more, take at most this much.
 abbrev pub room : Bool → ℕ → ℕ
@@ -61,6 +58,7 @@ room rows text = cond rows (6 * text + rowSize) 0
 pub record HasRoom (rows : Bool) (text out : List ℕ) (place : Place) : Type 0 where
   pub inside : place .from ≤ length text
   pub counted : place .number ≤ place .from + 1
+  pub fewer : place .tally .count < place .number
   pub enough : place .at + room rows (length text - place .from) ≤ length out
 
 -- A row written where rows are wanted.
@@ -69,16 +67,16 @@ pub record RowTold (rows : Bool) (text : List ℕ) (at : ℕ) (out : List ℕ) (
   pub small : next ≤ at + room rows 0
   pub buffer : out′ ≡ sets out at (bytesWanted rows text)
 
--- The walk has gone on: what is left comes to the same.
+-- The walk has gone on by a line: what is left comes to the same.
 pub record Went (rows : Bool) (text : List ℕ) (place : Place) (mem out : List ℕ) (next : Place) (mem′ out′ : List ℕ)
     : Type 0 where
   pub further : place .from < next .from
   pub fits : HasRoom rows text out′ next
-  pub left : walkedFrom rows text next mem′ out′ ≡ walkedFrom rows text place mem out
+  pub left : (lines : ℕ) → walkedFrom rows lines text next mem′ out′ ≡ walkedFrom rows (suc lines) text place mem out
 
 -- A line played: the walk goes on after it, or it was a bad one and ends the walk.
 pub record Played (rows : Bool) (text : List ℕ) (place : Place) (mem out : List ℕ) (ended : Ended) (mem′ out′ : List ℕ)
     : Type 0 where
   pub goes : isDone (ended .answer) ≡ true → Went rows text place mem out (ended .place) mem′ out′
   pub stops : isDone (ended .answer) ≡ false
-      → endedAt (ended .answer) (ended .place) mem′ out′ ≡ walkedFrom rows text place mem out
+      → (lines : ℕ) → endedAt (ended .answer) (ended .place) mem′ out′ ≡ walkedFrom rows (suc lines) text place mem out

@@ -3,6 +3,7 @@ ghost use mathlib.Core.Path.{_≡_};
 ghost use Prim.Native.Nat.{_+_, _*_};
 ghost use lib.Dec.{ltb};
 ghost use Rattle.player.specs.Promises.{PlayPromise};
+use crate::tally::no_refusal;
 use crate::walk::Place;
 use crate::walk::walk;
 use controller::Answer;
@@ -40,8 +41,9 @@ pub fn play(text: &[u8], out: &mut [u8]) -> Written
         at: head.length,
         number: 1,
         rec,
+        tally: no_refusal(),
     };
-    let ended = walk(text, true, start, &mut memory, out);
+    let ended = walk(text, true, u64::MAX, start, &mut memory, out);
     Written {
         answer: Answer::Done,
         length: ended.place.at,

@@ -5,6 +5,8 @@ ghost use lib.ListN.{length};
 ghost use Rattle.controller.specs.Answers.{numberOf};
 ghost use Rattle.lines.specs.ReportText.{row};
 ghost use Rattle.player.specs.Walk.{HasRoom, Played, RowTold, endedAt, room, walkedFrom};
+use crate::tally::Tally;
+use crate::tally::counted;
 use controller::Answer;
 use controller::Record;
 use controller::is_done;
@@ -15,12 +17,13 @@ use lines::read_line;
 use lines::write_row;
 
 // A place between two lines: the bytes of the text that are read, the bytes of the report that are written, the number of
-// the next line, and the record.
+// the next line, the record, and the refusals so far.
 pub struct Place {
     pub from: usize,
     pub at: usize,
     pub number: u64,
     pub rec: Record,
+    pub tally: Tally,
 }
 
 // Where a line or a whole walk ended: done, or a bad line's answer, and the place.
@@ -79,6 +82,8 @@ fn play_line(text: &[u8], rows: bool, place: Place, memory: &mut [u8], out: &mut
         out,
         place.at,
     );
+    let before = place.tally;
+    let tally = counted(before, place.number, told);
     Ended {
         answer,
         place: Place {
@@ -86,18 +91,27 @@ fn play_line(text: &[u8], rows: bool, place: Place, memory: &mut [u8], out: &mut
             at,
             number: place.number + 1,
             rec,
+            tally,
         },
     }
 }
 
-// Plays what is left of a text from a place on, to its end or to a bad line.
-pub fn walk(text: &[u8], rows: bool, start: Place, memory: &mut [u8], out: &mut [u8]) -> Ended
+// Plays at most so many lines of what is left of a text from a place on, to its end or to a bad line.
+pub fn walk(
+    text: &[u8],
+    rows: bool,
+    most: u64,
+    start: Place,
+    memory: &mut [u8],
+    out: &mut [u8],
+) -> Ended
     requires { ⌜ HasRoom rows (now text) (now out) start ⌝ }
     ensures { λ r. ⌜ endedAt (r .answer) (r .place) (now (memory .exit)) (now (out .exit))
-        ≡ walkedFrom rows (now (text .entry)) start (now (memory .entry)) (now (out .entry)) ⌝ }
+        ≡ walkedFrom rows most (now (text .entry)) start (now (memory .entry)) (now (out .entry)) ⌝ }
 {
     let mut place = start;
-    while place.from < text.len() {
+    let mut left = most;
+    while 0 < left && place.from < text.len() {
         let ended = play_line(text, rows, place, memory, out);
         let answer = ended.answer;
         if !is_done(answer) {
@@ -105,6 +119,7 @@ pub fn walk(text: &[u8], rows: bool, start: Place, memory: &mut [u8], out: &mut 
         }
         let next = ended.place;
         place = next;
+        left -= 1;
     }
     Ended {
         answer: Answer::Done,

@@ -63,13 +63,14 @@ each-determined =
       put-text = λ out at text. placed _;
       put-number = λ out at number. placed _;
       put-hex = λ out at byte. placed _;
+      put-answer = λ out at answer. placed _;
       first = λ bytes count. one _;
       read-line = λ text. one _;
       write-line = λ kind byte wait out. two _ _ _ (record { told = refl; number = refl; buffer = refl }) (λ a l is. (is .told, is .buffer));
       write-row = λ number answer byte busy out. two _ _ _ (record { told = refl; number = refl; buffer = refl }) (λ a l is. (is .told, is .buffer));
       write-header = λ out. two _ _ _ (record { told = refl; number = refl; buffer = refl }) (λ a l is. (is .told, is .buffer));
       play = λ text out. two _ _ _ (record { told = refl; number = refl; buffer = refl }) (λ a l is. (is .told, is .buffer));
-      play-through = λ text. one _;
+      play-through = λ text most. one _;
       draw = λ form rec mem size lit out. two _ _ _ (record { told = refl; number = refl; out = refl }) (λ a l is. (is .told, is .out));
       yaropesk-reset = λ bytes mem.
           three _ _ _ _ (record { told = refl; rec = refl; memory = refl }) (λ a b l is. (is .told, is .rec, is .memory));

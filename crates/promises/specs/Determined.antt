@@ -29,7 +29,8 @@ use Rattle.dots.specs.Promises.{PicturePromise, RowsOfPromise, IsShownPromise}
 use Rattle.interface.specs.Promises.{YaropeskResetPromise, YaropeskTransferPromise, YaropeskPicturePromise, YaropeskPlanPromise}
 use Rattle.interface.specs.Promises.{YaropeskWriteLinePromise, YaropeskReadLinePromise}
 use Rattle.lines.specs.Promises.{ReadLinePromise, WriteLinePromise, WriteRowPromise, WriteHeaderPromise, HexDigitPromise}
-use Rattle.lines.specs.Promises.{WorthOfPromise, PutTextPromise, PutBytePromise, PutNumberPromise, PutHexPromise, FirstPromise}
+use Rattle.lines.specs.Promises.{WorthOfPromise, PutTextPromise, PutBytePromise, PutNumberPromise, PutHexPromise}
+use Rattle.lines.specs.Promises.{PutAnswerPromise, FirstPromise}
 use Rattle.planner.specs.Promises.{PlanPromise}
 use Rattle.player.specs.Promises.{PlayPromise, PlayThroughPromise}
 
@@ -72,6 +73,8 @@ pub record EachDetermined : Type 0 where
       → ExactlyOne (λ (x : ℕ × List ℕ). PutTextPromise out at text (x .0) (x .1))
   pub put-number : (out : List ℕ) (at number : ℕ) → ExactlyOne (λ (x : ℕ × List ℕ). PutNumberPromise out at number (x .0) (x .1))
   pub put-hex : (out : List ℕ) (at byte : ℕ) → ExactlyOne (λ (x : ℕ × List ℕ). PutHexPromise out at byte (x .0) (x .1))
+  pub put-answer : (out : List ℕ) (at : ℕ) (answer : Answer)
+      → ExactlyOne (λ (x : ℕ × List ℕ). PutAnswerPromise out at answer (x .0) (x .1))
   pub first : (bytes : List ℕ) (count : ℕ) → ExactlyOne (λ (x : List ℕ). FirstPromise bytes count x)
   pub read-line : (text : List ℕ) → ExactlyOne (λ (x : Line). ReadLinePromise text x)
   pub write-line : (kind byte wait : ℕ) (out : List ℕ)
@@ -80,7 +83,7 @@ pub record EachDetermined : Type 0 where
       → ExactlyOne (λ (x : Written × List ℕ). WriteRowPromise number answer byte busy out (x .0) (x .1))
   pub write-header : (out : List ℕ) → ExactlyOne (λ (x : Written × List ℕ). WriteHeaderPromise out (x .0) (x .1))
   pub play : (text out : List ℕ) → ExactlyOne (λ (x : Written × List ℕ). PlayPromise text out (x .0) (x .1))
-  pub play-through : (text : List ℕ) → ExactlyOne (λ (x : Standing). PlayThroughPromise text x)
+  pub play-through : (text : List ℕ) (most : ℕ) → ExactlyOne (λ (x : Standing). PlayThroughPromise text most x)
   pub draw : (form : Form) (rec : Record) (mem : List ℕ) (size : Size) (lit : Bool) (out : List ℕ)
       → ExactlyOne (λ (x : Written × List ℕ). DrawPromise form rec mem size lit out (x .0) (x .1))
   pub yaropesk-reset : (bytes mem : List ℕ)

@@ -1,30 +1,70 @@
-// The session program: reads a session from standard input, plays it, and writes its report to standard output.
-// Document 01, "Session lines".
-use libc::STDIN_FILENO;
+// The session program: reads a session from standard input, plays it, and writes its report to standard output. What ended or
+// spoilt the run is told on standard error. Document 01, "Session lines".
+ghost use mathlib.Core.Path.{_≡_};
+ghost use Prim.Native.Nat.{_+_, _*_, _≤_};
+ghost use lib.ListN.{length};
+ghost use Rattle.controller.specs.declared.answers.Answer.the-variants.{Done};
+use controller::is_done;
 use libc::STDOUT_FILENO;
+use lines::Written;
 use lines::first;
-
-// The longest session.
-const LIMIT: usize = 65_536;
-
-// A session and one byte more, by which a longer one shows.
-const INPUT: usize = 65_537;
+use player::play;
+use player::play_through;
+use telling::INPUT;
+use telling::LIMIT;
+use telling::read_input;
+use telling::tell_bad_line;
+use telling::tell_too_long;
+use telling::tell_unread;
+use telling::tell_unwritten;
 
 // What the report of the longest session wants: six bytes for each byte of it, and 62 more.
-const OUTPUT: usize = 393_278;
+const OUTPUT: usize = 6 * LIMIT + 62;
 
-fn report(text: &[u8]) {
+// The report, into a buffer that always serves.
+fn write_report(text: &[u8], out: &mut [u8]) -> Written
+    requires { ⌜ 6 * length (now text) + 62 ≤ length (now out) ⌝ }
+    ensures { λ r. ⌜ r .answer ≡ Done ⌝ }
+{
+    play(text, out)
+}
+
+fn print(text: &[u8]) {
+    if !io::write_all(STDOUT_FILENO, text) {
+        tell_unwritten(b"session");
+    }
+}
+
+// A bad line ends the report; nothing after it was played.
+fn tell_end(text: &[u8]) {
+    let standing = play_through(text, u64::MAX);
+    let answer = standing.answer;
+    if !is_done(answer) {
+        tell_bad_line(b"session", standing.number);
+    }
+}
+
+fn report(text: &[u8])
+    requires { ⌜ length (now text) ≤ 65536 ⌝ }
+{
     let mut out = [0u8; OUTPUT];
-    let played = player::play(text, &mut out);
-    io::write_all(STDOUT_FILENO, first(&out, played.length));
+    let written = write_report(text, &mut out);
+    print(first(&out, written.length));
+    tell_end(text);
 }
 
 fn main() {
     let mut input = [0u8; INPUT];
-    let length = io::read_full(STDIN_FILENO, &mut input);
-    if LIMIT < length {
-        io::write_all(STDOUT_FILENO, b"too long\n");
+    let got = read_input(&mut input);
+    if got.failed {
+        tell_unread(b"session");
         return;
     }
-    report(&input[..length]);
+    let length = got.length;
+    if LIMIT < length {
+        print(b"too long\n");
+        tell_too_long(b"session");
+        return;
+    }
+    report(first(&input, length));
 }

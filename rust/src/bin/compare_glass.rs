@@ -4,7 +4,8 @@
 //! compare_glass PROGRAM [SEED] [RUNS] [--wrong | --wrong=NAME | --wrong=all]
 //! ```
 //!
-//! Each run has a text, a size of the glass and a form; every byte that PROGRAM writes to
+//! Each run has a text, a size of the glass, a form and at times a number of transfers;
+//! every byte that PROGRAM writes to
 //! standard output and standard error must be the drawing's. On a difference text and
 //! size are made smaller, both drawings shown, and the exit is 1. With `--wrong` a
 //! deliberately wrong drawing takes the drawing's place; `--wrong=all` tries each, and
@@ -24,41 +25,61 @@ const DEFAULT_RUNS: u64 = 2_000;
 /// The words' generators lie past those of the texts.
 const WORDS: u64 = 1 << 41;
 
-/// What is asked for: a size and a form, and the words that say so.
+/// What is asked for: a size, a form and how many transfers are played at most, and the
+/// words that say so.
 #[derive(Clone)]
 struct Wanted {
     size: Size,
     form: Form,
+    until: Option<usize>,
     words: Vec<String>,
 }
 
 impl Wanted {
-    fn new(size: Size, form: Form, form_first: bool) -> Wanted {
+    fn new(size: Size, form: Form, until: Option<usize>, form_first: bool) -> Wanted {
         let numbers = [size.columns.to_string(), size.lines.to_string()];
-        let form_word = form.word().map(String::from);
-        let words = match form_first {
-            true => form_word.into_iter().chain(numbers).collect(),
-            false => numbers.into_iter().chain(form_word).collect(),
+        let form_word = [String::from(form.word())];
+        let mut words = match form_first {
+            true => [&form_word[..], &numbers[..]].concat(),
+            false => [&numbers[..], &form_word[..]].concat(),
         };
-        Wanted { size, form, words }
+        if let Some(most) = until {
+            words.extend([String::from("--until"), most.to_string()]);
+        }
+        Wanted {
+            size,
+            form,
+            until,
+            words,
+        }
     }
 
-    /// Any size and form, the usual sizes more often; the words in either order.
+    /// Any size and form, the usual sizes more often; the words in either order; and in
+    /// some runs a number of transfers.
     fn random(chance: &mut Chance) -> Wanted {
         let any = chance.between(1, 40) as u8;
         let columns = chance.pick(&[1, 16, 20, 40, any, any, any, any]);
         let size = Size::new(columns, chance.pick(&[1, 2]));
         let form = chance.pick(&FORMS);
-        let mut wanted = Wanted::new(size, form, chance.percent(50));
-        if size == USUAL && chance.percent(50) {
+        let most = chance.between(0, 60) as usize;
+        let until = chance.percent(25).then_some(most);
+        let mut wanted = Wanted::new(size, form, until, chance.percent(50));
+        if size == USUAL && until.is_none() && chance.percent(50) {
             wanted.words.retain(|word| word.starts_with("--"));
+        }
+        if form == Form::Dots && chance.percent(50) {
+            wanted.words.retain(|word| word != form.word());
         }
         wanted
     }
 
     /// The same of a smaller glass.
     fn sized(&self, size: Size) -> Wanted {
-        Wanted::new(size, self.form, false)
+        Wanted::new(size, self.form, self.until, false)
+    }
+
+    fn most(&self) -> usize {
+        self.until.unwrap_or(usize::MAX)
     }
 }
 
@@ -81,7 +102,8 @@ impl Pair<'_> {
     }
 
     fn drawing_writes(&self, wanted: &Wanted, text: &[u8]) -> Written {
-        self.drawing.program(text, wanted.size, wanted.form)
+        self.drawing
+            .program(text, wanted.size, wanted.form, wanted.most())
     }
 
     fn differs(&self, wanted: &Wanted, text: &[u8]) -> bool {
@@ -124,7 +146,9 @@ impl Pair<'_> {
 /// What the runs have reached.
 #[derive(Default)]
 struct Reached {
-    forms: [u64; 3],
+    forms: [u64; 5],
+    bounded: u64,
+    refused: u64,
     bad_lines: u64,
     too_long: u64,
     displays_on: u64,
@@ -138,7 +162,9 @@ impl Reached {
             self.too_long += 1;
             return;
         }
-        let played = model::play(text, model::read_line, model::transfer);
+        let played = model::play_until(text, wanted.most(), model::read_line, model::transfer);
+        self.bounded += u64::from(wanted.until.is_some());
+        self.refused += u64::from(played.refused > 0);
         self.bad_lines += u64::from(played.bad_row.is_some());
         self.displays_on += u64::from(played.rec.d);
         self.halves += u64::from(played.rec.half != Half::None);
@@ -147,12 +173,17 @@ impl Reached {
 
 impl Display for Reached {
     fn fmt(&self, to: &mut Formatter) -> fmt::Result {
-        let [text, bitmap, cells] = self.forms;
+        let [dots, blocks, letters, bitmap, cells] = self.forms;
+        writeln!(
+            to,
+            "dots {dots}, blocks {blocks}, letters {letters}, bitmap {bitmap}, cells {cells}; \
+             so many transfers only {}",
+            self.bounded
+        )?;
         write!(
             to,
-            "text {text}, bitmap {bitmap}, cells {cells}; \
-             display on {}, a half waiting {}, bad lines {}, too long {}",
-            self.displays_on, self.halves, self.bad_lines, self.too_long
+            "display on {}, a half waiting {}, refused {}, bad lines {}, too long {}",
+            self.displays_on, self.halves, self.refused, self.bad_lines, self.too_long
         )
     }
 }

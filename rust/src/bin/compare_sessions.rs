@@ -20,12 +20,11 @@ use yaropesk_model::wrong;
 
 const DEFAULT_TEXTS: u64 = 2_000;
 
-/// The model's report, and nothing on standard error.
+/// The model's report, and what is told of it on standard error.
 fn session(model: Model, text: &[u8]) -> Written {
-    Written {
-        output: model::session_with(text, model.read_line, model.transfer),
-        errors: Vec::new(),
-    }
+    let output = model::session_with(text, model.read_line, model.transfer);
+    let errors = model::told("session", &output).into_bytes();
+    Written { output, errors }
 }
 
 fn differs(program: &str, model: Model, text: &[u8]) -> bool {

@@ -31,3 +31,28 @@ pub const TOO_SHORT: Answer = 11;
 pub const BAD_LINE: Answer = 12;
 /// "not a wish"
 pub const NOT_A_WISH: Answer = 13;
+
+/// "All but 0, 5, 7 and 8 are refusals."
+pub fn is_refusal(answer: Answer) -> bool {
+    !matches!(answer, DONE | FIRST_HALF | STALE | CROSSED)
+}
+
+/// What the table says of an answer.
+pub fn words(answer: Answer) -> &'static str {
+    match answer {
+        DONE => "done",
+        UNSOUND => "record unsound",
+        WRONG_LENGTH => "memory, marks or values not 144 long",
+        WRONG_KIND => "kind above 3, or a read with a byte",
+        BUSY => "busy",
+        FIRST_HALF => "first half taken",
+        NO_CELL => "display address without a cell",
+        STALE => "stale read, done",
+        CROSSED => "crossed halves, done",
+        OUT_OF_RANGE => "columns or lines out of range",
+        TOO_SHORT => "output too short",
+        BAD_LINE => "bad line",
+        NOT_A_WISH => "not a wish",
+        _ => unreachable!("no such answer is given"),
+    }
+}

@@ -120,7 +120,7 @@ pub fn place(counter: Counter) -> usize {
 
 /// The address of the counter's cell: "A display address (ADD) is never read as a
 /// pattern address (ACG), though both are small numbers."
-pub(super) fn address(n: bool, counter: Counter) -> u8 {
+pub fn address(n: bool, counter: Counter) -> u8 {
     match counter {
         Counter::Display(cell) => display_address(n, cell),
         Counter::Pattern(cell) => cell,

@@ -1,7 +1,8 @@
 //! Deliberately wrong drawings of the program `glass`.
 
-use crate::drawing::{self, Dot, Drawing, Grid, Gridder, Inker, Teller, Watcher, DRAWING};
-use crate::model::{line_length, Half, Record, Size};
+use crate::drawing::{self, Blocker, Dot, Drawing, Grid, Gridder, Inker, Pointer};
+use crate::drawing::{Speller, Teller, Watcher, DRAWING};
+use crate::model::{self, line_length, Counter, Half, Played, Record, Size};
 use crate::wrong::{each, of_calls};
 
 /// Each character's dots run from right to left.
@@ -42,6 +43,48 @@ fn dots_touch(dot: Dot) -> [u8; 8] {
     }
 }
 
+/// The quarters of a block from right to left.
+fn blocks_mirrored([a, b, c, d]: [bool; 4]) -> char {
+    drawing::block([b, a, d, c])
+}
+
+/// The lower quarters of a block are lost where the upper ones are filled.
+fn quarters_lost(quarters: [bool; 4]) -> char {
+    match quarters {
+        [true, true, _, _] => drawing::block([true, true, false, false]),
+        others => drawing::block(others),
+    }
+}
+
+/// A pattern reads as the digit of its number.
+fn patterns_as_digits(played: &Played, line: u8, column: u8) -> char {
+    match model::shown_cell(&played.rec, line, column) {
+        Some(cell) if played.rec.d && played.mem[usize::from(cell)] < 0x10 => {
+            char::from(b'0' + played.mem[usize::from(cell)] % 8)
+        }
+        _ => drawing::reads(played, line, column),
+    }
+}
+
+/// Letters are read with the display off too.
+fn read_while_off(played: &Played, line: u8, column: u8) -> char {
+    let cell = model::shown_cell(&played.rec, line, column);
+    cell.map_or(' ', |cell| drawing::letter(played.mem[usize::from(cell)]))
+}
+
+/// The caret is there with C=1 or B=1 only.
+fn caret_of_a_cursor(rec: &Record, line: u8, column: u8) -> bool {
+    (rec.c || rec.b) && drawing::is_counter(rec, line, column)
+}
+
+/// A counter on a pattern cell is taken for one on a display cell.
+fn caret_of_a_pattern(rec: &Record, line: u8, column: u8) -> bool {
+    let cell = match rec.counter {
+        Counter::Display(cell) | Counter::Pattern(cell) => cell,
+    };
+    model::shown_cell(rec, line, column) == Some(cell)
+}
+
 /// The last display cell counts as shown on every glass.
 fn last_cell_unmarked(rec: &Record, size: Size, cell: u8) -> bool {
     cell == 79 || drawing::is_shown(rec, size, cell)
@@ -75,6 +118,25 @@ fn half_of_a_half(rec: &Record) -> String {
     drawing::state(&Record { half, ..*rec })
 }
 
+/// The counter's address is told as if N were 0.
+fn address_without_n(rec: &Record) -> String {
+    let due = model::address(rec.n, rec.counter);
+    let told = model::address(false, rec.counter);
+    drawing::state(rec).replace(
+        &format!("address {due:02X}h"),
+        &format!("address {told:02X}h"),
+    )
+}
+
+/// C and B are exchanged.
+fn settings_exchanged(rec: &Record) -> String {
+    drawing::state(&Record {
+        c: rec.b,
+        b: rec.c,
+        ..*rec
+    })
+}
+
 /// Busy is told without the places of its missing digits.
 fn busy_not_placed(rec: &Record) -> String {
     let (place, number) = (format!("{:>5}", rec.busy), rec.busy.to_string());
@@ -89,13 +151,30 @@ const WRONG_GRIDS: [(&str, Gridder); 3] = [
 
 const WRONG_PIXELS: [(&str, Inker); 1] = [("dots-touch", dots_touch)];
 
+const WRONG_BLOCKS: [(&str, Blocker); 2] = [
+    ("blocks-mirrored", blocks_mirrored),
+    ("quarters-lost", quarters_lost),
+];
+
+const WRONG_LETTERS: [(&str, Speller); 2] = [
+    ("patterns-as-digits", patterns_as_digits),
+    ("read-while-off", read_while_off),
+];
+
+const WRONG_CARETS: [(&str, Pointer); 2] = [
+    ("caret-of-a-cursor", caret_of_a_cursor),
+    ("caret-of-a-pattern", caret_of_a_pattern),
+];
+
 const WRONG_MARKS: [(&str, Watcher); 3] = [
     ("last-cell-unmarked", last_cell_unmarked),
     ("marked-unshifted", marked_unshifted),
     ("second-line-shown", second_line_shown),
 ];
 
-const WRONG_STATES: [(&str, Teller); 3] = [
+const WRONG_STATES: [(&str, Teller); 5] = [
+    ("address-without-n", address_without_n),
+    ("settings-exchanged", settings_exchanged),
     ("shift-in-line", shift_in_line),
     ("half-of-a-half", half_of_a_half),
     ("busy-not-placed", busy_not_placed),
@@ -111,6 +190,12 @@ pub fn all() -> Vec<(&'static str, Drawing)> {
     [
         each(&WRONG_GRIDS, |grid| Drawing { grid, ..DRAWING }),
         each(&WRONG_PIXELS, |pixels| Drawing { pixels, ..DRAWING }),
+        each(&WRONG_BLOCKS, |block| Drawing { block, ..DRAWING }),
+        each(&WRONG_LETTERS, |reads| Drawing { reads, ..DRAWING }),
+        each(&WRONG_CARETS, |is_counter| Drawing {
+            is_counter,
+            ..DRAWING
+        }),
         each(&WRONG_MARKS, |is_shown| Drawing {
             is_shown,
             ..DRAWING

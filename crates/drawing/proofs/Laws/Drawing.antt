@@ -1,14 +1,16 @@
 -- Laws of the drawings: how large they are, where their bytes stand, and when the picture beneath is refused.
 -- Assumes nothing.
 use Prim.Native.Nat.{ℕ, _+_, _-_, _*_, _/_, _%_, _≤_, _<_}
-use native.Mathlib.Nat.{div-lt-iff-lt-mul, mod-lt, mul-comm}
+use native.Mathlib.Nat.{mod-lt}
 use native.Mathlib.Omega.{arith}
 use Rattle.drawing.specs.declared.drawing.Form.{Form}
-use Rattle.drawing.specs.declared.drawing.Form.the-variants.{Text, Bitmap, Cells}
+use Rattle.drawing.specs.declared.drawing.Form.the-variants.{Blocks, Dots, Letters, Bitmap, Cells}
 use Rattle.drawing.specs.declared.grid.Grid.{Grid}
 use Rattle.drawing.specs.Grid.{Small, lastX, lastY}
 use Rattle.drawing.specs.Drawing.{frameWidth, frameLength, bitmapLength, lengthOf}
-use Rattle.drawing.proofs.Laws.Grid.{last-x-most, last-y-most, product}
+use Rattle.drawing.proofs.Laws.Grid.{in-row, last-x-most, last-y-most, product}
+use Rattle.drawing.proofs.Laws.Blocks.{blocks-most}
+use Rattle.drawing.proofs.Laws.Letters.{letters-most}
 
 pub width-some : (grid : Grid) → 0 < frameWidth grid
 unfolding frameWidth
@@ -16,10 +18,6 @@ width-some grid = omega arith
 
 last-some : (grid : Grid) → 0 < lastX grid + 1
 last-some grid = omega arith
-
--- a place of a grid of so many rows stands in a row of it
-in-row : (place width rows : ℕ) → 0 < width → place < width * rows → place / width < rows
-in-row place width rows some inside = div-lt-iff-lt-mul some .1 (rw (mul-comm width rows) at inside)
 
 module _ (grid : Grid) (small : Small grid) where
   pub width-most : frameWidth grid ≤ 242
@@ -55,6 +53,8 @@ module _ (grid : Grid) (small : Small grid) where
 
   pub length-most : (form : Form) → lengthOf form grid ≤ 65535
   unfolding bitmapLength
-  length-most Text = omega (arith, frame-most)
+  length-most Dots = omega (arith, frame-most)
+  length-most Blocks = omega (arith, blocks-most grid small)
+  length-most Letters = omega (arith, letters-most grid small)
   length-most Bitmap = omega (arith, pixels-most)
   length-most Cells = omega arith

@@ -2,11 +2,12 @@
 -- Assumes nothing.
 use mathlib.Core.Bool.{Bool, true, false, _||_}
 use mathlib.Core.Path.{_≡_}
-use Prim.Native.Nat.{ℕ, _+_, _-_, _*_, _/_, _%_, _≤_}
-use native.Mathlib.Nat.{mul-le-mul, mul-le-mul-left, div-add-mod', mul-one}
+use Prim.Native.Nat.{ℕ, _+_, _-_, _*_, _/_, _%_, _≤_, _<_}
+use native.Mathlib.Nat.{div-add-mod', div-lt-iff-lt-mul, mul-comm, mul-le-mul, mul-le-mul-left, mul-one}
 use native.Mathlib.Omega.{arith}
 use borrow.Author.Tests.{eqb-false}
 use lib.Dec.{eqb}
+use Rattle.dots.proofs.Places.{row-ends}
 use Rattle.drawing.specs.declared.grid.Grid.{Grid}
 use Rattle.drawing.specs.Grid.{Small, isBetween, lastX, lastY}
 
@@ -31,6 +32,14 @@ empty-above grid x y is =
 -- a product of small numbers is small
 pub product : (a b m n : ℕ) → a ≤ m → b ≤ n → a * b ≤ m * n
 product a b m n p q = mul-le-mul p q
+
+-- a place of a text of so many rows stands in a row of it
+pub in-row : (place width rows : ℕ) → 0 < width → place < width * rows → place / width < rows
+in-row place width rows some inside = div-lt-iff-lt-mul some .1 (rw (mul-comm width rows) at inside)
+
+-- and a place of a row stands within the text
+pub row-inside : (width row rows place : ℕ) → row < rows → place < width → row * width + place < width * rows
+row-inside width row rows place r p = rw (mul-comm width rows) (omega (arith, row-ends width row rows r))
 
 pub last-y-most : (grid : Grid) → Small grid → lastY grid ≤ 24
 unfolding lastY

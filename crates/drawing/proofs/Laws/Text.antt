@@ -12,8 +12,7 @@ use Rattle.controller.specs.declared.cells.Counter.the-variants.{Display, Patte
 use Rattle.controller.specs.declared.«record».Half.{Half}
 use Rattle.controller.specs.declared.«record».Half.the-variants.{Empty, InstructionWrite, DataWrite, StatusRead, DataRead}
 use Rattle.controller.specs.declared.«record».Record.{Record}
-use Rattle.lines.specs.Text.{bytesOf}
-use Rattle.drawing.specs.State.{onOff, memoryShown, halfShown, linesShown, shownFields, counterField}
+use Rattle.drawing.specs.State.{bitFields, counterField, displayField, functionFields, halfShown, memoryShown, onOff, settingsLine}
 
 -- a field and what follows it, byte by byte
 pub memory-bytes : (counter : Counter) (rest : List ℕ)
@@ -31,22 +30,22 @@ half-bytes (DataWrite high) rest = refl
 half-bytes (StatusRead byte) rest = refl
 half-bytes (DataRead byte) rest = refl
 
--- a field that ends a text
-pub on-off-is : (d : Bool) → (getD (onOff d) 0 0 ∷ getD (onOff d) 1 0 ∷ getD (onOff d) 2 0 ∷ []) ≡ onOff d
-on-off-is true = refl
-on-off-is false = refl
+pub on-off-bytes : (d : Bool) (rest : List ℕ)
+    → onOff d ++ rest ≡ getD (onOff d) 0 0 ∷ getD (onOff d) 1 0 ∷ getD (onOff d) 2 0 ∷ rest
+on-off-bytes true rest = refl
+on-off-bytes false rest = refl
 
 -- how long the fields are
-pub shown-length : (rec : Record) → length (shownFields rec) ≡ 20
-shown-length rec = go (rec .control .d)
+pub settings-length : (rec : Record) → length (settingsLine rec) ≡ 57
+settings-length rec = go (rec .control .d)
   where
-    go : (d : Bool) → length (bytesOf "lines " ++ (linesShown (rec .function .n) ∷ (bytesOf "  display " ++ onOff d))) ≡ 20
+    go : (d : Bool) → length (functionFields rec ++ (displayField d ++ bitFields (rec .control) (rec .entry))) ≡ 57
     go true = refl
     go false = refl
 
-pub counter-length : (counter : Counter) → length (counterField counter) ≡ 20
-counter-length (Display cell) = refl
-counter-length (Pattern cell) = refl
+pub counter-length : (n : Bool) (counter : Counter) → length (counterField n counter) ≡ 36
+counter-length n (Display cell) = refl
+counter-length n (Pattern cell) = refl
 
 -- a byte of two texts, one behind the other: in the first, or in the second
 pub first-byte : (front back : List ℕ) (size place : ℕ) → length front ≡ size → place < size → getD front place 0 ≡ getD (front ++ back) place 0

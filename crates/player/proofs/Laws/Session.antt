@@ -6,10 +6,11 @@ use mathlib.Core.Path.{_≡_, refl, ap}
 use Prim.Native.Nat.{ℕ, zero, suc, _+_, _<_, _≤_}
 use native.Mathlib.Omega.{arith}
 use native.Mathlib.Nat.{add-zero}
+use lib.Dec.{eqb}
 use lib.ListN.{length, drop, replicate, length-drop}
 use Rattle.controller.specs.declared.answers.Answer.{Answer}
 use Rattle.controller.specs.declared.answers.Answer.the-variants.{Done}
-use Rattle.controller.specs.Answers.{isDone, numberOf}
+use Rattle.controller.specs.Answers.{isDone, isRefusal, numberOf}
 use Rattle.controller.specs.declared.sent.Sent.{Sent}
 use Rattle.controller.specs.Runs.{State, decidedOf, after, toldOf, heard, ran}
 use Rattle.controller.proofs.Laws.Answers.{done-is}
@@ -25,7 +26,8 @@ use Rattle.lines.specs.ReportText.{header, row}
 use Rattle.lines.proofs.Laws.Digits.{either}
 use Rattle.lines.proofs.Theorems.Read.{read-is-sayable}
 use Rattle.player.specs.Session.{Session, endedBy, following, sentOf, readUpTo, sessionOf}
-use Rattle.player.specs.Standing.{leaving}
+use Rattle.player.specs.declared.tally.Tally.{Tally}
+use Rattle.player.specs.Standing.{answersTo, counting, countingAll, leaving, stood}
 use Rattle.player.specs.Report.{rowAt, rowsFrom, lastRow, rowsOf, start}
 
 -- a line that stands has at least 7 bytes, all of them in the text
@@ -40,7 +42,28 @@ sent-sound state text good is =
     transfer-keeps-sound (state .rec) (state .mem) (lineOf text .kind) (lineOf text .byte) (lineOf text .wait)
     (read-is-sayable text (done-is (lineOf text .answer) good) .0 .is-byte) is
 
--- more than enough fuel changes nothing
+pub read-none : (most : ℕ) → readUpTo most [] ≡ endedBy Done
+unfolding readUpTo
+read-none zero = refl
+read-none (suc k) = refl
+
+pub read-enough : (text : List ℕ) → readUpTo 0 text ≡ endedBy Done
+unfolding readUpTo
+read-enough text = refl
+
+pub read-more : (k : ℕ) (text : List ℕ) → 0 < length text → isDone (lineOf text .answer) ≡ true
+    → readUpTo (suc k) text ≡ following (sentOf (lineOf text)) (readUpTo k (drop (lineOf text .length) text))
+unfolding readUpTo
+read-more k [] some e = absurd (omega arith)
+read-more k (byte ∷ rest) some e = simp e
+
+pub read-bad : (k : ℕ) (text : List ℕ) → 0 < length text → isDone (lineOf text .answer) ≡ false
+    → readUpTo (suc k) text ≡ endedBy (lineOf text .answer)
+unfolding readUpTo
+read-bad k [] some e = absurd (omega arith)
+read-bad k (byte ∷ rest) some e = simp e
+
+-- more lines than there are bytes change nothing
 read-fuel : (k j : ℕ) (text : List ℕ) → length text ≤ k → length text ≤ j → readUpTo k text ≡ readUpTo j text
 unfolding readUpTo
 read-fuel zero zero text a b = refl
@@ -57,6 +80,11 @@ read-fuel (suc k) (suc j) (byte ∷ rest) a b =
     let less = length-drop (lineOf text .length) text in
     simp e (ap (following (sentOf (lineOf text))) (read-fuel k j (drop (lineOf text .length) text) (omega arith) (omega arith))))
     (λ e. simp e)
+
+-- a text longer than so many lines is read whole
+pub read-all : (most : ℕ) (text : List ℕ) → length text ≤ most → readUpTo most text ≡ sessionOf text
+unfolding sessionOf
+read-all most text enough = read-fuel most (length text) text enough (omega arith)
 
 pub session-none : sessionOf [] ≡ endedBy Done
 unfolding sessionOf readUpTo
@@ -97,18 +125,27 @@ rows-more number state t s =
     simp (next, append-assoc)
 
 -- no transfer leaves the controller as it is
-pub leaving-last : (number : ℕ) (state : State) (answer : Answer)
-    → leaving number state (endedBy answer) ≡ record { answer = answer; number = number; rec = state .rec; memory = state .mem }
-unfolding leaving ran
-leaving-last number state answer = simp add-zero
+pub leaving-last : (number : ℕ) (before : Tally) (state : State) (answer : Answer)
+    → leaving number before state (endedBy answer) ≡ stood answer number state before
+unfolding leaving ran answersTo countingAll
+leaving-last number before state answer = simp add-zero
 
--- one transfer more is one number more
-pub leaving-more : (number : ℕ) (state : State) (t : Sent) (s : Session)
-    → leaving number state (following t s) ≡ leaving (number + 1) (after state (decidedOf state t)) s
-unfolding leaving ran
-leaving-more number state t s =
+-- one transfer more is one number more, and a refusal more where it is refused
+pub leaving-more : (number : ℕ) (before : Tally) (state : State) (t : Sent) (s : Session)
+    → leaving number before state (following t s)
+    ≡ leaving (number + 1) (counting before number (decidedOf state t .answer)) (after state (decidedOf state t)) s
+unfolding leaving ran answersTo countingAll
+leaving-more number before state t s =
     let next : number + suc (length (s .sent)) ≡ number + 1 + length (s .sent) = omega arith in
     simp next
+
+-- there are fewer refusals than the next line's number
+pub counting-below : (tally : Tally) (line : ℕ) (answer : Answer) → tally .count < line → counting tally line answer .count < line + 1
+unfolding counting
+counting-below tally line answer few =
+    either (isRefusal answer)
+    (λ refused. either (eqb (tally .count) 0) (λ e. simp (refused, e) (omega arith)) (λ e. simp (refused, e) (omega arith)))
+    (λ taken. simp taken (omega arith))
 
 -- what a session starts from is sound
 pub start-sound : sound (start .rec) ≡ true

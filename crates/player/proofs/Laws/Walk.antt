@@ -3,7 +3,7 @@
 use mathlib.Core.Bool.{Bool, true, false, false≢true}
 use mathlib.Core.List.{List, [], _++_, append-assoc, append-nil}
 use mathlib.Core.Path.{_≡_, refl, sym, ap, _∙_}
-use Prim.Native.Nat.{ℕ, _+_, _-_, _^_, _<_, _≤_}
+use Prim.Native.Nat.{ℕ, suc, _+_, _-_, _^_, _<_, _≤_}
 use native.Mathlib.Omega.{arith}
 use native.Mathlib.Nat.{add-zero}
 use borrow.Author.Tests.{le-ltb}
@@ -28,10 +28,12 @@ use Rattle.lines.proofs.Laws.Lengths.{row-fits}
 use Rattle.lines.proofs.Laws.Buffer.{sets-append, sets-next, sets-onto}
 use Rattle.player.specs.declared.walk.Ended.{Ended}
 use Rattle.player.specs.declared.walk.Place.{Place}
-use Rattle.player.specs.Session.{Session, endedBy, following, sentOf, sessionOf}
+use Rattle.player.specs.declared.tally.Tally.{Tally}
+use Rattle.player.specs.Session.{Session, endedBy, following, sentOf, readUpTo, sessionOf}
 use Rattle.player.specs.Report.{rowAt, rowsOf, start, report, reportSize}
-use Rattle.player.specs.Walk.{bytesWanted, stateAt, Walked, endedAt, walked, walkedFrom, room, HasRoom, RowTold, Played}
-use Rattle.player.proofs.Laws.Session.{line-long, session-none, session-more, session-bad, rows-none, rows-last, rows-more, leaving-last, leaving-more, header-length}
+use Rattle.player.specs.Standing.{counting, noRefusal}
+use Rattle.player.specs.Walk.{bytesWanted, stateAt, Walked, endedAt, walked, walkedFrom, room, HasRoom, RowTold, Went, Played}
+use Rattle.player.proofs.Laws.Session.{line-long, read-none, read-enough, read-more, read-bad, read-all, rows-none, rows-last, rows-more, leaving-last, leaving-more, counting-below, header-length}
 use Rattle.player.proofs.Theorems.Fits.{report-fits}
 
 -- a call that writes a text, with the buffer that it wants
@@ -90,23 +92,24 @@ module _ (rows : Bool) (place : Place) (mem out : List ℕ) where
   walked-done : walked rows place mem out (endedBy Done) ≡ endedAt Done place mem out
   unfolding walked
   walked-done =
-      simp (leaving-last (place .number) (stateAt place mem) Done, rows-none (place .number) (stateAt place mem), wanted-none rows, add-zero)
+      simp (leaving-last (place .number) (place .tally) (stateAt place mem) Done, rows-none (place .number) (stateAt place mem), wanted-none rows, add-zero)
 
   -- at a bad line
   walked-bad : (answer : Answer) {at : ℕ} {out′ : List ℕ} → isDone answer ≡ false
       → RowTold rows (row (place .number) (numberOf answer) 0 (place .rec .busy)) (place .at) out at out′
-      → endedAt answer (record { from = place .from; at = at; number = place .number; rec = place .rec }) mem out′ ≡ walked rows place mem out (endedBy answer)
+      → endedAt answer (record { from = place .from; at = at; number = place .number; rec = place .rec; tally = place .tally }) mem out′ ≡ walked rows place mem out (endedBy answer)
   unfolding walked
   walked-bad answer bad tells =
-      simp (leaving-last (place .number) (stateAt place mem) answer, rows-last (place .number) (stateAt place mem) answer bad, tells .after, tells .buffer)
+      simp (leaving-last (place .number) (place .tally) (stateAt place mem) answer, rows-last (place .number) (stateAt place mem) answer bad, tells .after, tells .buffer)
 
   -- one transfer more
   walked-more : (t : Sent) (s : Session) (next : Place) {mem′ out′ : List ℕ} → next .number ≡ place .number + 1
       → stateAt next mem′ ≡ after (stateAt place mem) (decidedOf (stateAt place mem) t)
+      → next .tally ≡ counting (place .tally) (place .number) (decidedOf (stateAt place mem) t .answer)
       → RowTold rows (rowAt (place .number) (toldOf (decidedOf (stateAt place mem) t))) (place .at) out (next .at) out′
       → walked rows next mem′ out′ s ≡ walked rows place mem out (following t s)
   unfolding walked
-  walked-more t s next {mem′} {out′} counted runs tells =
+  walked-more t s next {mem′} {out′} counted runs refused tells =
       let state = stateAt place mem in
       let own = bytesWanted rows (rowAt (place .number) (toldOf (decidedOf state t))) in
       let rest = rowsOf (place .number + 1) (after state (decidedOf state t)) s in
@@ -114,7 +117,7 @@ module _ (rows : Bool) (place : Place) (mem out : List ℕ) where
       ap (bytesWanted rows) (rows-more (place .number) state t s) ∙ wanted-more rows _ rest in
       let long : place .at + length own + length (bytesWanted rows rest) ≡ place .at + length (own ++ bytesWanted rows rest) =
       omega (arith, length-append own (bytesWanted rows rest)) in
-      simp (all, counted, runs, tells .after, tells .buffer, leaving-more (place .number) state t s, sets-append, long)
+      simp (all, counted, runs, refused, tells .after, tells .buffer, leaving-more (place .number) (place .tally) state t s, sets-append, long)
 
 -- room for the rest after a line of at least 7 bytes, whose row took at most 42
 room-after : (rows : Bool) (at next text line : ℕ) {out : ℕ} → 7 ≤ line → line ≤ text → at + room rows text ≤ out → next ≤ at + room rows 0
@@ -149,28 +152,29 @@ module _ {rows : Bool} {text : List ℕ} {place : Place} {out : List ℕ} (fits 
   pub line-stops : {mem : List ℕ} {at : ℕ} {out′ : List ℕ} → isDone (line .answer) ≡ false
       → RowTold rows (row (place .number) (numberOf (line .answer)) 0 (place .rec .busy)) (place .at) out at out′
       → Played rows text place mem out
-      (record { answer = line .answer; place = record { from = place .from; at = at; number = place .number; rec = place .rec } }) mem out′
+      (record { answer = line .answer; place = record { from = place .from; at = at; number = place .number; rec = place .rec; tally = place .tally } }) mem out′
   line-stops {mem} bad tells =
       record {
         goes = λ good. absurd (false≢true (sym bad ∙ good));
-        stops = λ _. walked-bad rows place mem out (line .answer) bad tells
+        stops = λ _ k. walked-bad rows place mem out (line .answer) bad tells
             ∙ ap (λ (l : Line). walked rows place mem out (endedBy (l .answer))) is-line
-            ∙ ap (walked rows place mem out) (sym (session-bad (drop (place .from) text) more-text (own bad)));
+            ∙ ap (walked rows place mem out) (sym (read-bad k (drop (place .from) text) more-text (own bad)));
       }
 
   -- a line that stands carries it on
-  pub line-goes : {mem : List ℕ} {told : Outcome} {mem′ : List ℕ} {at : ℕ} {out′ : List ℕ} → isDone (line .answer) ≡ true
+  pub line-goes : {mem : List ℕ} {told : Outcome} {mem′ : List ℕ} {at : ℕ} {out′ : List ℕ} {tally : Tally} → isDone (line .answer) ≡ true
       → Performs (decidedOf (stateAt place mem) (sentOf line)) mem told mem′
       → RowTold rows (row (place .number) (numberOf (told .answer)) (told .byte) (told .rec .busy)) (place .at) out at out′
+      → tally ≡ counting (place .tally) (place .number) (told .answer)
       → Played rows text place mem out
       (record {
         answer = line .answer;
-        place = record { from = place .from + line .length; at = at; number = place .number + 1; rec = told .rec };
+        place = record { from = place .from + line .length; at = at; number = place .number + 1; rec = told .rec; tally = tally };
       }) mem′ out′
-  line-goes {mem} {told} {mem′} {at} {out′} good performs tells =
+  line-goes {mem} {told} {mem′} {at} {out′} {tally} good performs tells refused =
       let inside = line-inside good in
       let left = place .from + line .length in
-      let next : Place = record { from = left; at = at; number = place .number + 1; rec = told .rec } in
+      let next : Place = record { from = left; at = at; number = place .number + 1; rec = told .rec; tally = tally } in
       let less : length text - place .from - line .length ≡ length text - left = omega arith in
       let same : length out′ ≡ length out = ap length (tells .buffer) ∙ simp length-sets in
       record {
@@ -179,42 +183,70 @@ module _ {rows : Bool} {text : List ℕ} {place : Place} {out : List ℕ} (fits 
           fits = record {
             inside = inside .1;
             counted = let c = fits .counted in omega arith;
+            fewer = rw refused (counting-below (place .tally) (place .number) (told .answer) (fits .fewer));
             enough = rw (sym less, same) (room-after rows (place .at) at (length text - place .from) (line .length) (inside .0) (omega arith) (fits .enough) (tells .small));
           };
-          left = ap (λ (t : List ℕ). walked rows next mem′ out′ (sessionOf t)) (sym (drop-drop (line .length) (place .from) text))
-              ∙ walked-more rows place mem out (sentOf line) (sessionOf (drop (line .length) (drop (place .from) text))) next refl
-              (simp (performs .told, performs .memory)) (rw (performs .told) at tells)
-              ∙ ap (λ (l : Line). walked rows place mem out (following (sentOf l) (sessionOf (drop (l .length) (drop (place .from) text))))) is-line
-              ∙ ap (walked rows place mem out) (sym (session-more (drop (place .from) text) more-text (own good)));
+          left = λ k. ap (λ (t : List ℕ). walked rows next mem′ out′ (readUpTo k t)) (sym (drop-drop (line .length) (place .from) text))
+              ∙ walked-more rows place mem out (sentOf line) (readUpTo k (drop (line .length) (drop (place .from) text))) next refl
+              (simp (performs .told, performs .memory)) (rw (performs .told) at refused) (rw (performs .told) at tells)
+              ∙ ap (λ (l : Line). walked rows place mem out (following (sentOf l) (readUpTo k (drop (l .length) (drop (place .from) text))))) is-line
+              ∙ ap (walked rows place mem out) (sym (read-more k (drop (place .from) text) more-text (own good)));
         };
         stops = λ bad. absurd (false≢true (sym bad ∙ good));
       }
 
+-- a walk of some lines more, after the first of them
+pub walk-goes : {rows : Bool} {text : List ℕ} {place : Place} {mem out : List ℕ} {next : Place} {mem′ out′ : List ℕ} (lines : ℕ) → 0 < lines
+    → Went rows text place mem out next mem′ out′ → walkedFrom rows (lines - 1) text next mem′ out′ ≡ walkedFrom rows lines text place mem out
+walk-goes {rows} {text} {place} {mem} {out} lines some went =
+    let one : suc (lines - 1) ≡ lines = omega arith in
+    went .left (lines - 1) ∙ ap (λ (n : ℕ). walkedFrom rows n text place mem out) one
+
+-- or at a bad line
+pub walk-stops : {rows : Bool} {text : List ℕ} {place : Place} {mem out : List ℕ} {ended : Ended} {mem′ out′ : List ℕ} (lines : ℕ) → 0 < lines
+    → Played rows text place mem out ended mem′ out′ → isDone (ended .answer) ≡ false
+    → endedAt (ended .answer) (ended .place) mem′ out′ ≡ walkedFrom rows lines text place mem out
+walk-stops {rows} {text} {place} {mem} {out} lines some played bad =
+    let one : suc (lines - 1) ≡ lines = omega arith in
+    played .stops bad (lines - 1) ∙ ap (λ (n : ℕ). walkedFrom rows n text place mem out) one
+
 -- the end of the text
-pub text-over : (rows : Bool) (text : List ℕ) (place : Place) (mem out : List ℕ) → length text ≤ place .from
-    → endedAt Done place mem out ≡ walkedFrom rows text place mem out
-text-over rows text place mem out over =
+pub text-over : (rows : Bool) (lines : ℕ) (text : List ℕ) (place : Place) (mem out : List ℕ) → length text ≤ place .from
+    → endedAt Done place mem out ≡ walkedFrom rows lines text place mem out
+text-over rows lines text place mem out over =
     sym (walked-done rows place mem out)
-    ∙ ap (walked rows place mem out) (sym session-none ∙ ap sessionOf (sym (drop-of-length-le text over)))
+    ∙ ap (walked rows place mem out) (sym (read-none lines) ∙ ap (readUpTo lines) (sym (drop-of-length-le text over)))
+
+-- or so many lines were played
+pub lines-over : (rows : Bool) (lines : ℕ) (text : List ℕ) (place : Place) (mem out : List ℕ) → lines ≡ 0
+    → endedAt Done place mem out ≡ walkedFrom rows lines text place mem out
+lines-over rows lines text place mem out none =
+    sym (walked-done rows place mem out)
+    ∙ ap (walked rows place mem out)
+    (sym (read-enough (drop (place .from) text)) ∙ ap (λ (n : ℕ). readUpTo n (drop (place .from) text)) (sym none))
 
 -- after the header there is room for the rows
-pub report-begins : (text : List ℕ) (rec : Record) {out out₁ : List ℕ} {head : Written} → reportSize text ≤ length out → length out₁ ≡ length out
-    → Writes (wanting 20 header out) out head out₁ → HasRoom true text out₁ (record { from = 0; at = head .length; number = 1; rec = rec })
-report-begins text rec {out} enough same meets =
+pub report-begins : (text : List ℕ) (rec : Record) {out out₁ : List ℕ} {head : Written} {tally : Tally} → reportSize text ≤ length out
+    → length out₁ ≡ length out → Writes (wanting 20 header out) out head out₁ → tally ≡ noRefusal
+    → HasRoom true text out₁ (record { from = 0; at = head .length; number = 1; rec = rec; tally = tally })
+report-begins text rec {out} enough same meets none =
     let long = writes 20 header out (omega arith) meets .0 ∙ header-length in
-    record { inside = omega arith; counted = omega arith; enough = omega arith }
+    record { inside = omega arith; counted = omega arith; fewer = rw none (omega arith); enough = omega arith }
 
 -- the header, and after it the rows, are the whole report
-pub report-done : (text : List ℕ) {out out₁ : List ℕ} {head : Written} {rec : Record} {mem : List ℕ} (ended : Ended) {mem′ out′ : List ℕ}
-    → reportSize text ≤ length out → length text < 2 ^ 63 → Writes (wanting 20 header out) out head out₁ → record { rec = rec; mem = mem } ≡ start
-    → endedAt (ended .answer) (ended .place) mem′ out′ ≡ walkedFrom true text (record { from = 0; at = head .length; number = 1; rec = rec }) mem out₁
+pub report-done : (text : List ℕ) (most : ℕ) (tally : Tally) {out out₁ : List ℕ} {head : Written} {rec : Record} {mem : List ℕ} (ended : Ended)
+    {mem′ out′ : List ℕ} → reportSize text ≤ length out → length text < 2 ^ 63 → length text ≤ most
+    → Writes (wanting 20 header out) out head out₁ → record { rec = rec; mem = mem } ≡ start
+    → endedAt (ended .answer) (ended .place) mem′ out′
+    ≡ walkedFrom true most text (record { from = 0; at = head .length; number = 1; rec = rec; tally = tally }) mem out₁
     → (ended .place .at ≡ length (report text)) × (out′ ≡ onto (report text) out)
 unfolding report walked
-report-done text {out} {out₁} {head} {rec} {mem} ended enough few meets begins walks =
+report-done text most tally {out} {out₁} {head} {rec} {mem} ended enough few reaches meets begins walks =
     let fits = report-fits text few in
     let all = rowsOf 1 start (sessionOf text) in
     let wrote = writes 20 header out (omega arith) meets in
-    let own : rowsOf 1 (record { rec = rec; mem = mem }) (sessionOf text) ≡ all = ap (λ (s : State). rowsOf 1 s (sessionOf text)) begins in
+    let own : rowsOf 1 (record { rec = rec; mem = mem }) (readUpTo most text) ≡ all =
+    ap (rowsOf 1 (record { rec = rec; mem = mem })) (read-all most text reaches) ∙ ap (λ (s : State). rowsOf 1 s (sessionOf text)) begins in
     let long : length (report text) ≡ length header + length all = length-append header all in
     let begun : out₁ ≡ sets out 0 header = wrote .1 ∙ sym (sets-onto header out (omega (arith, header-length))) in (
       ap (λ (w : Walked). w .at) walks ∙ omega (arith, wrote .0, ap length own),

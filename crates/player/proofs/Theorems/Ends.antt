@@ -1,6 +1,6 @@
 -- How a text ends: 12 is given exactly where it is no session, and a bad line ends the report and leaves the bench as it stood.
 -- Assumes nothing.
-use mathlib.Core.Bool.{Bool, true, false, cond, not, false≢true}
+use mathlib.Core.Bool.{true, false, cond, not, false≢true}
 use mathlib.Core.List.{List, [], _∷_, _++_, append-nil}
 use mathlib.Core.Logic.{⊎-elim}
 use mathlib.Core.Path.{_≡_, refl, sym, ap, _∙_}
@@ -10,10 +10,10 @@ use lib.ListN.{length, drop, length-drop}
 use lib.Seq.{drop-append-seam}
 use borrow.Author.Tests.{not-true, not-false}
 use Rattle.controller.specs.declared.answers.Answer.{Answer}
-use Rattle.controller.specs.declared.answers.Answer.the-variants.{Done, BadLine}
+use Rattle.controller.specs.declared.answers.Answer.the-variants.{BadLine}
 use Rattle.controller.specs.declared.sent.Sent.{Sent}
 use Rattle.controller.specs.Answers.{isDone, numberOf}
-use Rattle.controller.proofs.Laws.Answers.{done-is, none-applies, row-applies, tells-as}
+use Rattle.controller.proofs.Laws.Answers.{none-applies, row-applies, tells-as}
 use Rattle.controller.proofs.Laws.Tests.{Tests}
 use Rattle.lines.specs.declared.reader.Line.{Line}
 use Rattle.lines.specs.Line.{line, linesOf}
@@ -27,7 +27,7 @@ use Rattle.player.specs.Report.{lastRow, report, rowsOf}
 use Rattle.player.specs.Standing.{leaving, standing}
 use Rattle.player.specs.Theorems.{BadLineEnds, NoSession, ThroughAnswers, throughRows}
 use Rattle.player.proofs.Laws.Session.{line-long, session-bad, session-more, session-none}
-use Rattle.player.proofs.Theorems.Read.{session-ends, session-reads-back}
+use Rattle.player.proofs.Theorems.Read.{session-ends, session-reads-back, read-reached}
 
 -- what no line starts ends a session with 12
 bad-session : (more : List ℕ) → 0 < length more → (Starts more → ⊥) → sessionOf more ≡ endedBy BadLine
@@ -47,9 +47,10 @@ bad-read ts more can some none =
 
 pub bad-line-ends : BadLineEnds
 unfolding report rowsOf lastRow standing leaving
-bad-line-ends ts more can some none =
+bad-line-ends ts more most can some none few =
     let read = bad-read ts more can some none in
-    record { row = simp read; stands = simp read }
+    let whole = read-reached most (linesOf ts ++ more) (omega (arith, ap (λ (s : Session). length (s .sent)) read)) in
+    record { row = simp read; stands = simp (whole, read) }
 
 -- a line that stands, and what is after it
 line-and-rest : (text : List ℕ) → isDone (lineOf text .answer) ≡ true
@@ -109,4 +110,6 @@ end-number text = ⊎-elim (λ d. rw d refl) (λ d. rw d refl) (session-ends tex
 
 pub through-answers : ThroughAnswers
 unfolding standing leaving throughRows
-through-answers text = tells-as _ _ _ (end-number text) (row-applies _ _ _ _ (through-tests text) (λ _. none-applies))
+through-answers text most reaches =
+    tells-as _ _ _ (ap (λ (s : Session). numberOf (s .end)) (read-reached most text reaches) ∙ end-number text)
+    (row-applies _ _ _ _ (through-tests text) (λ _. none-applies))

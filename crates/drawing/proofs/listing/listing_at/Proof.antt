@@ -1,5 +1,5 @@
--- `drawing::listing::listing_at` meets its contract: the end of the line is tested, then the label; what is left is one of
--- sixteen cells.
+-- `drawing::listing::listing_at` meets its contract: the end of the line is tested, then the label and the cells; what is left is
+-- the column of letters.
 -- Assumes nothing.
 use Rattle.drawing.specs.Listing.{listingAt}
 use borrow.Author.Tests.{lt-ltb, le-ltb, eq-eqb, ne-eqb}
@@ -21,18 +21,25 @@ returns-2 : tie.Need-returns-2
 unfolding listingAt
 returns-2 c = simp (c .label-for .ensures, lt-ltb _ _ (c .before .if2 .taken), ne-eqb _ _ (c .before .before .if1 .left))
 
-mul-cell-field : tie.Need-mul-cell-field
-mul-cell-field c = search needs
+mul-place : tie.Need-mul-place
+mul-place c = search needs
 
-add-cell-field : tie.Need-add-cell-field
-add-cell-field c = search needs
+add-place : tie.Need-add-place
+add-place c = search needs
 
 cell-field-requires : tie.Need-cell-field-requires
 cell-field-requires c κs = search needs
 
 returns-3 : tie.Need-returns-3
 unfolding listingAt
-returns-3 c = simp (c .cell-field .ensures, le-ltb _ _ (c .before .if2 .left), ne-eqb _ _ (c .before .before .if1 .left))
+returns-3 c = simp (c .cell-field .ensures, lt-ltb _ _ (c .before .if3 .taken), le-ltb _ _ (c .before .before .if2 .left), ne-eqb _ _ (c .before .before .before .if1 .left))
+
+text-column-requires : tie.Need-text-column-requires
+text-column-requires c κs = search needs
+
+returns-4 : tie.Need-returns-4
+unfolding listingAt
+returns-4 c = simp (c .text-column .ensures, le-ltb _ _ (c .before .if3 .left), le-ltb _ _ (c .before .before .if2 .left), ne-eqb _ _ (c .before .before .before .if1 .left))
 
 pub listing-at-spec : {M : Type 1} → statement M
 listing-at-spec =
@@ -42,7 +49,9 @@ listing-at-spec =
     label-for-requires
     array-read-result
     returns-2
-    mul-cell-field
-    add-cell-field
+    mul-place
+    add-place
     cell-field-requires
-    returns-3)
+    returns-3
+    text-column-requires
+    returns-4)

@@ -1,5 +1,5 @@
--- `drawing::state::counter_field` meets its contract: the name's seven bytes and the number's two are stored where the blank
--- field has room for them.
+-- `drawing::state::counter_field` meets its contract: the name's seven bytes, the number's two and the address's two digits are
+-- stored where the blank field has room for them.
 -- Assumes nothing.
 use Rattle.drawing.proofs.Laws.Text.{memory-bytes}
 use borrow.Author.Needs.{needs}
@@ -17,6 +17,9 @@ cast-two-wide c = search needs
 
 two-wide-requires : tie.Need-two-wide-requires
 two-wide-requires c κs = search needs
+
+address-shown-requires : tie.Need-address-shown-requires
+address-shown-requires c κs = search needs
 
 array-read-text : tie.Need-array-read-text
 array-read-text c = search needs
@@ -72,8 +75,30 @@ array-read-text-9 c = search needs
 array-write-text-9 : tie.Need-array-write-text-9
 array-write-text-9 c = search needs
 
+hex-digit-requires : tie.Need-hex-digit-requires
+hex-digit-requires c κs = search needs
+
+array-write-text-10 : tie.Need-array-write-text-10
+array-write-text-10 c = search needs
+
+hex-digit-requires-2 : tie.Need-hex-digit-requires-2
+hex-digit-requires-2 c κs = search needs
+
+array-write-text-11 : tie.Need-array-write-text-11
+array-write-text-11 c = search needs
+
 returns : tie.Need-returns
-returns c = simp (memory-bytes, c .before .before .two-wide .ensures, c .before .before .before .cell-of .ensures, c .before .before .before .before .memory-shown .ensures)
+returns c =
+    let told = c .before .before .before .before in
+    simp (
+      memory-bytes,
+      c .hex-digit2 .ensures,
+      c .before .hex-digit .ensures,
+      told .address-shown .ensures,
+      told .before .two-wide .ensures,
+      told .before .before .cell-of .ensures,
+      told .before .before .before .memory-shown .ensures,
+    )
 
 pub counter-field-spec : {M : Type 1} → statement M
 counter-field-spec =
@@ -83,6 +108,7 @@ counter-field-spec =
     cell-of-requires
     cast-two-wide
     two-wide-requires
+    address-shown-requires
     array-read-text
     array-write-text
     array-read-text-2
@@ -101,4 +127,8 @@ counter-field-spec =
     array-write-text-8
     array-read-text-9
     array-write-text-9
+    hex-digit-requires
+    array-write-text-10
+    hex-digit-requires-2
+    array-write-text-11
     returns)

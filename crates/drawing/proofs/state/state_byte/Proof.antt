@@ -1,37 +1,36 @@
--- `drawing::state::state_byte` meets its contract: the first fields are 20 bytes long, and the others stand behind them.
+-- `drawing::state::state_byte` meets its contract: the settings are 57 bytes long, and what moves stands behind them.
 -- Assumes nothing.
-use Rattle.drawing.specs.State.{stateLine}
-use mathlib.Core.List.{_++_}
-use Rattle.drawing.specs.State.{shownFields, counterField, lastFields}
-use Rattle.drawing.proofs.Laws.Text.{shown-length, first-byte, second-byte}
+use Rattle.drawing.specs.State.{stateLines}
+use Rattle.drawing.specs.State.{settingsLine, movingLine}
+use Rattle.drawing.proofs.Laws.Text.{settings-length, first-byte, second-byte}
 use borrow.Author.Needs.{needs}
 use Rattle.drawing.proofs.state.state_byte.Statement.{statement}
 use Rattle.drawing.proofs.state.state_byte.Tie as tie
 
-shown-fields-requires : tie.Need-shown-fields-requires
-shown-fields-requires c κs = search needs
+settings-line-requires : tie.Need-settings-line-requires
+settings-line-requires c κs = search needs
 
 array-read-result : tie.Need-array-read-result
 array-read-result c = search needs
 
 returns : tie.Need-returns
-unfolding stateLine
+unfolding stateLines
 returns c =
     let rec = c .before .before .args .rec in
-    simp (c .shown-fields .ensures)
-    (first-byte (shownFields rec) (counterField (rec .counter) ++ lastFields rec) 20 _ (shown-length rec) (c .before .if1 .taken))
+    simp (c .settings-line .ensures)
+    (first-byte (settingsLine rec) (movingLine rec) 57 _ (settings-length rec) (c .before .if1 .taken))
 
-later-byte-requires : tie.Need-later-byte-requires
-later-byte-requires c κs = search needs
+moving-byte-requires : tie.Need-moving-byte-requires
+moving-byte-requires c κs = search needs
 
 returns-2 : tie.Need-returns-2
-unfolding stateLine
+unfolding stateLines
 returns-2 c =
     let rec = c .before .before .args .rec in
-    simp (c .later-byte .ensures)
-    (second-byte (shownFields rec) (counterField (rec .counter) ++ lastFields rec) 20 _ (shown-length rec) (c .before .if1 .left))
+    simp (c .moving-byte .ensures)
+    (second-byte (settingsLine rec) (movingLine rec) 57 _ (settings-length rec) (c .before .if1 .left))
 
 pub state-byte-spec : {M : Type 1} → statement M
 state-byte-spec =
     tie.close
-    (tie.spec shown-fields-requires array-read-result returns later-byte-requires returns-2)
+    (tie.spec settings-line-requires array-read-result returns moving-byte-requires returns-2)

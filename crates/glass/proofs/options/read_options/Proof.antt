@@ -18,11 +18,8 @@ arg-count-requires c κs = search needs
 loop-holds : tie.Need-loop-holds Inv-loop μ-loop
 loop-holds c = tt
 
-word-at-requires : tie.Need-word-at-requires Inv-loop μ-loop
-word-at-requires c κs = search needs
-
-with-word-requires : tie.Need-with-word-requires Inv-loop μ-loop
-with-word-requires c κs = search needs
+with-word-at-requires : tie.Need-with-word-at-requires Inv-loop μ-loop
+with-word-at-requires c κs = search needs
 
 add-at : tie.Need-add-at Inv-loop μ-loop
 add-at c = omega arith
@@ -44,8 +41,7 @@ read-options-spec =
     μ-loop
     arg-count-requires
     loop-holds
-    word-at-requires
-    with-word-requires
+    with-word-at-requires
     add-at
     loop-less
     loop-again

@@ -33,15 +33,18 @@ slice-aggregate-reset c = search needs
 reset-requires : tie.Need-reset-requires
 reset-requires c κs = search needs
 
+no-refusal-requires : tie.Need-no-refusal-requires
+no-refusal-requires c κs = search needs
+
 slice-aggregate-walk : tie.Need-slice-aggregate-walk
 slice-aggregate-walk c = search needs
 
 walk-requires : tie.Need-walk-requires
 walk-requires c κs =
-    let head = c .before .before .before .before .before .before .before .before .before in
+    let head = c .before .before .before .before .before .before .before .before .before .before in
     let asked = head .before .before in
     let begin = asked .before .before .before .before in
-    report-begins (begin .args .text .now) _ (ltb-false (length (begin .args .out .now)) (6 * length (begin .args .text .now) + 62) (sym (asked .before .is-short .ensures) ∙ asked .if1 .left)) (head .write-header .kept .0) (head .write-header .ensures)
+    report-begins (begin .args .text .now) _ (ltb-false (length (begin .args .out .now)) (6 * length (begin .args .text .now) + 62) (sym (asked .before .is-short .ensures) ∙ asked .if1 .left)) (head .write-header .kept .0) (head .write-header .ensures) (c .before .before .no-refusal .ensures)
 
 same-length : tie.Need-same-length
 same-length c = search needs
@@ -49,7 +52,7 @@ same-length c = search needs
 returns-2 : tie.Need-returns-2
 unfolding playing wanting
 returns-2 c =
-    let set = c .before .before .before .before .before .before .before .before in
+    let set = c .before .before .before .before .before .before .before .before .before in
     let head = set .before .before .before .before .before in
     let asked = head .before .before in
     let begin = asked .before .before .before .before in
@@ -57,7 +60,7 @@ returns-2 c =
     let begins = reset-starts (set .before .before .after-reset .result) (set .reset .ensures) in
     let long = ltb-false (length (begin .args .out .now)) (6 * length (begin .args .text .now) + 62) enough in
     let few : length (begin .args .out .now) < 2 ^ 64 = omega arith in
-    let done = report-done (begin .args .text .now) (c .before .before .before .walk .result) long (omega arith) (head .write-header .ensures) begins (c .before .before .before .walk .ensures) in
+    let done = report-done (begin .args .text .now) 18446744073709551615 (c .before .before .before .before .before .before .no-refusal .result) (c .before .before .before .walk .result) long (omega arith) (omega arith) (head .write-header .ensures) begins (c .before .before .before .walk .ensures) in
     simp enough (record { told = ap (λ (n : ℕ). record { answer = Done; length = n }) (done .0); number = refl; buffer = done .1 })
 
 pub play-spec : {M : Type 1} → statement M
@@ -70,6 +73,7 @@ play-spec =
     after-reset-requires
     slice-aggregate-reset
     reset-requires
+    no-refusal-requires
     slice-aggregate-walk
     walk-requires
     same-length

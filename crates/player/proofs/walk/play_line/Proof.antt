@@ -43,17 +43,20 @@ transfer-requires c κs = search needs
 tell-requires-2 : tie.Need-tell-requires-2
 tell-requires-2 c κs = let begin = c .before .before .before .before .before .before .before .before .before .before .before .before .before .before in room-row (begin .args .rows) (begin .args .place .at) _ (begin .pre .0 .enough)
 
-add-t16 : tie.Need-add-t16
-add-t16 c =
-    let start = c .before .before .before .before .before .before .before .before .before .before .before .before .before .before .before .before .before .before in
-    let good = sym (c .before .before .before .before .before .before .before .before .before .before .before .before .is-done .ensures) ∙ not-false _ (c .before .before .before .before .before .before .before .before .before .before .before .if1 .left) in
-    let inside = line-inside (start .pre .0) (start .pre .1) (c .before .before .before .before .before .before .before .before .before .before .before .before .before .read-line .ensures) good .1 in
+counted-requires : tie.Need-counted-requires
+counted-requires c κs = search needs
+
+add-t18 : tie.Need-add-t18
+add-t18 c =
+    let start = c .before .before .before .before .before .before .before .before .before .before .before .before .before .before .before .before .before .before .before .before in
+    let good = sym (c .before .before .before .before .before .before .before .before .before .before .before .before .before .before .is-done .ensures) ∙ not-false _ (c .before .before .before .before .before .before .before .before .before .before .before .before .before .if1 .left) in
+    let inside = line-inside (start .pre .0) (start .pre .1) (c .before .before .before .before .before .before .before .before .before .before .before .before .before .before .before .read-line .ensures) good .1 in
     let few : length (start .args .text .now) < 2 ^ 64 = omega arith in
     omega arith
 
-add-t27 : tie.Need-add-t27
-add-t27 c =
-    let start = c .before .before .before .before .before .before .before .before .before .before .before .before .before .before .before .before .before .before .before in
+add-t29 : tie.Need-add-t29
+add-t29 c =
+    let start = c .before .before .before .before .before .before .before .before .before .before .before .before .before .before .before .before .before .before .before .before .before in
     let few : length (start .args .text .now) < 2 ^ 63 = omega arith in
     omega (arith, start .pre .0 .counted, start .pre .1)
 
@@ -65,9 +68,9 @@ same-length-3 c = search needs
 
 returns-2 : tie.Need-returns-2
 returns-2 c =
-    let begin = c .before .before .before .before .before .before .before .before .before .before .before .before .before .before .before .before .before .before .before .pre in
-    let good = sym (c .before .before .before .before .before .before .before .before .before .before .before .before .before .is-done .ensures) ∙ not-false _ (c .before .before .before .before .before .before .before .before .before .before .before .before .if1 .left) in
-    line-goes (begin .0) (begin .1) (c .before .before .before .before .before .before .before .before .before .before .before .before .before .before .read-line .ensures) good (c .before .before .before .before .before .before .before .before .before .transfer .ensures) (c .before .before .before .before .tell2 .ensures)
+    let begin = c .before .before .before .before .before .before .before .before .before .before .before .before .before .before .before .before .before .before .before .before .before .pre in
+    let good = sym (c .before .before .before .before .before .before .before .before .before .before .before .before .before .before .before .is-done .ensures) ∙ not-false _ (c .before .before .before .before .before .before .before .before .before .before .before .before .before .before .if1 .left) in
+    line-goes (begin .0) (begin .1) (c .before .before .before .before .before .before .before .before .before .before .before .before .before .before .before .before .read-line .ensures) good (c .before .before .before .before .before .before .before .before .before .before .before .transfer .ensures) (c .before .before .before .before .before .before .tell2 .ensures) (c .before .before .counted .ensures)
 
 pub play-line-spec : {M : Type 1} → statement M
 play-line-spec =
@@ -83,8 +86,9 @@ play-line-spec =
     returns
     transfer-requires
     tell-requires-2
-    add-t16
-    add-t27
+    counted-requires
+    add-t18
+    add-t29
     same-length-2
     same-length-3
     returns-2)

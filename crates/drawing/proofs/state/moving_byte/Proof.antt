@@ -1,10 +1,10 @@
--- `drawing::state::later_byte` meets its contract: the counter's field is 20 bytes long, and the last ones stand behind it.
+-- `drawing::state::moving_byte` meets its contract: the counter's field is 36 bytes long, and the last ones stand behind it.
 -- Assumes nothing.
 use Rattle.drawing.specs.State.{counterField, lastFields}
 use Rattle.drawing.proofs.Laws.Text.{counter-length, first-byte, second-byte}
 use borrow.Author.Needs.{needs}
-use Rattle.drawing.proofs.state.later_byte.Statement.{statement}
-use Rattle.drawing.proofs.state.later_byte.Tie as tie
+use Rattle.drawing.proofs.state.moving_byte.Statement.{statement}
+use Rattle.drawing.proofs.state.moving_byte.Tie as tie
 
 counter-field-requires : tie.Need-counter-field-requires
 counter-field-requires c κs = search needs
@@ -14,8 +14,9 @@ array-read-result c = search needs
 
 returns : tie.Need-returns
 returns c =
-    let counter = c .before .before .args .rec .counter in
-    simp (c .counter-field .ensures) (first-byte (counterField counter) (lastFields (c .before .before .args .rec)) 20 _ (counter-length counter) (c .before .if1 .taken))
+    let rec = c .before .before .args .rec in
+    simp (c .counter-field .ensures)
+    (first-byte (counterField (rec .function .n) (rec .counter)) (lastFields rec) 36 _ (counter-length (rec .function .n) (rec .counter)) (c .before .if1 .taken))
 
 last-fields-requires : tie.Need-last-fields-requires
 last-fields-requires c κs = search needs
@@ -30,10 +31,10 @@ returns-2 : tie.Need-returns-2
 returns-2 c =
     let rec = c .before .before .before .before .args .rec in
     simp (c .byte-in .ensures, c .before .before .last-fields .ensures)
-    (second-byte (counterField (rec .counter)) (lastFields rec) 20 _ (counter-length (rec .counter)) (c .before .before .before .if1 .left))
+    (second-byte (counterField (rec .function .n) (rec .counter)) (lastFields rec) 36 _ (counter-length (rec .function .n) (rec .counter)) (c .before .before .before .if1 .left))
 
-pub later-byte-spec : {M : Type 1} → statement M
-later-byte-spec =
+pub moving-byte-spec : {M : Type 1} → statement M
+moving-byte-spec =
     tie.close
     (tie.spec
     counter-field-requires

@@ -1,12 +1,12 @@
--- `drawing::drawing::text_byte` meets its contract: a place within the frame's length has a small column and row in it, and a
--- later one is of the state's line.
+-- `drawing::drawing::frame_byte` meets its contract: a place within the frame's length has a small column and row in it, and a
+-- later one is of the state's lines.
 -- Assumes nothing.
 use Rattle.drawing.proofs.Laws.Drawing.{width-some, frame-column, frame-row}
-use Rattle.drawing.specs.Drawing.{textByte}
+use Rattle.drawing.specs.Drawing.{frameByte}
 use borrow.Author.Tests.{lt-ltb, le-ltb}
 use borrow.Author.Needs.{needs}
-use Rattle.drawing.proofs.drawing.text_byte.Statement.{statement}
-use Rattle.drawing.proofs.drawing.text_byte.Tie as tie
+use Rattle.drawing.proofs.drawing.frame_byte.Statement.{statement}
+use Rattle.drawing.proofs.drawing.frame_byte.Tie as tie
 
 frame-length-requires : tie.Need-frame-length-requires
 frame-length-requires c κs = search needs
@@ -31,18 +31,18 @@ frame-at-requires c κs =
     )
 
 returns : tie.Need-returns
-unfolding textByte
+unfolding frameByte
 returns c = simp (c .frame-at .ensures, c .before .frame-width .ensures, lt-ltb _ _ (rw (c .before .before .before .frame-length .ensures) at (c .before .before .if1 .taken)))
 
 state-byte-requires : tie.Need-state-byte-requires
 state-byte-requires c κs = search needs
 
 returns-2 : tie.Need-returns-2
-unfolding textByte
+unfolding frameByte
 returns-2 c = simp (c .state-byte .ensures, le-ltb _ _ (rw (c .before .before .frame-length .ensures) at (c .before .if1 .left)), c .before .before .frame-length .ensures)
 
-pub text-byte-spec : {M : Type 1} → statement M
-text-byte-spec =
+pub frame-byte-spec : {M : Type 1} → statement M
+frame-byte-spec =
     tie.close
     (tie.spec
     frame-length-requires
