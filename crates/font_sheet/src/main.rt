@@ -1,10 +1,16 @@
-// Writes the shapes of the fixed table, sixteen beside each other under their codes, for a person to look at. Each block
-// is a picture: a line of sixteen characters, with the display on and no cursor.
-ghost use Prim.Native.Nat.{_+_, _≤_, _<_};
+// Writes the shapes of the fixed table, sixteen beside each other under their letters and codes, for a person to look at. Each
+// block is a picture: a line of sixteen characters, with the display on and no cursor.
+ghost use Prim.Native.Nat.{_<_};
 use controller::Record;
 use controller::after_reset;
 use libc::STDOUT_FILENO;
-use lines::hex_digit;
+use lines::first;
+use lines::put_byte;
+use lines::put_hex;
+use lines::put_text;
+
+// More than the sheet takes.
+const OUTPUT: usize = 6_144;
 
 // A record that shows the display cells from cell 0 on.
 fn shown() -> Record {
@@ -28,6 +34,26 @@ fn codes_from(first: u8) -> [u8; 144]
     memory
 }
 
+// The letter of a code on the glass: 5Ch is the yen sign, here in UTF-8, and from 7Eh on there is none.
+fn put_letter(out: &mut [u8], at: usize, code: u8) -> usize {
+    if code == 0x5C {
+        let begun = put_byte(out, at, 0xC2);
+        return put_byte(out, begun, 0xA5);
+    }
+    if 0x7D < code {
+        return put_byte(out, at, b' ');
+    }
+    put_byte(out, at, code)
+}
+
+// Seven columns: blanks, a code's letter and its two digits.
+fn put_code(out: &mut [u8], at: usize, code: u8) -> usize {
+    let indented = put_text(out, at, b"   ");
+    let lettered = put_letter(out, indented, code);
+    let parted = put_byte(out, lettered, b' ');
+    put_hex(out, parted, code)
+}
+
 fn mark(bit: u8) -> u8 {
     if bit == 1 {
         return b'#';
@@ -35,70 +61,60 @@ fn mark(bit: u8) -> u8 {
     b'.'
 }
 
-// Five blanks and a code's two digits.
-fn put_code(text: &mut [u8; 6107], at: usize, code: u8)
-    requires { ⌜ at + 7 ≤ 6107 ⌝ }
-{
-    text[at] = b' ';
-    text[at + 1] = b' ';
-    text[at + 2] = b' ';
-    text[at + 3] = b' ';
-    text[at + 4] = b' ';
-    text[at + 5] = hex_digit(code / 16);
-    text[at + 6] = hex_digit(code);
+// Seven columns: two blanks and five dots, bit 4 leftmost.
+fn put_dots(out: &mut [u8], at: usize, dots: u8) -> usize {
+    let row = [
+        b' ',
+        b' ',
+        mark(dots / 16 % 2),
+        mark(dots / 8 % 2),
+        mark(dots / 4 % 2),
+        mark(dots / 2 % 2),
+        mark(dots % 2),
+    ];
+    put_text(out, at, &row)
 }
 
-// Two blanks and five dots, bit 4 leftmost.
-fn put_dots(text: &mut [u8; 6107], at: usize, dots: u8)
-    requires { ⌜ at + 7 ≤ 6107 ⌝ }
+// The line of letters and codes over a block.
+fn put_codes(out: &mut [u8], at: usize, first: u8) -> usize
+    requires { ⌜ first < 240 ⌝ }
 {
-    text[at] = b' ';
-    text[at + 1] = b' ';
-    text[at + 2] = mark(dots / 16 % 2);
-    text[at + 3] = mark(dots / 8 % 2);
-    text[at + 4] = mark(dots / 4 % 2);
-    text[at + 5] = mark(dots / 2 % 2);
-    text[at + 6] = mark(dots % 2);
-}
-
-// The codes over a block.
-fn put_codes(text: &mut [u8; 6107], at: usize, first: u8)
-    requires { ⌜ (at + 112 ≤ 6107) × (first < 240) ⌝ }
-{
-    let mut column = 0;
+    let mut next = at;
     let mut code = first;
-    while column < 16 {
-        put_code(text, at + column * 7, code);
+    while code < first + 16 {
+        next = put_code(out, next, code);
         code += 1;
-        column += 1;
     }
+    put_byte(out, next, b'\n')
 }
 
 // One row of dots of a block.
-fn put_row(text: &mut [u8; 6107], at: usize, picture: &[u8; 128], row: usize)
-    requires { ⌜ (at + 112 ≤ 6107) × (row < 8) ⌝ }
+fn put_row(out: &mut [u8], at: usize, picture: &[u8; 128], row: usize) -> usize
+    requires { ⌜ row < 8 ⌝ }
 {
+    let mut next = at;
     let mut column = 0;
     while column < 16 {
-        put_dots(text, at + column * 7, picture[row * 16 + column]);
+        next = put_dots(out, next, picture[row * 16 + column]);
         column += 1;
     }
+    put_byte(out, next, b'\n')
 }
 
-// The eight rows of a block. A line of the text is 112 bytes and its end.
-fn put_rows(text: &mut [u8; 6107], at: usize, picture: &[u8; 128])
-    requires { ⌜ at + 904 ≤ 6107 ⌝ }
-{
+// The eight rows of a block.
+fn put_rows(out: &mut [u8], at: usize, picture: &[u8; 128]) -> usize {
+    let mut next = at;
     let mut row = 0;
     while row < 8 {
-        put_row(text, at + row * 113, picture, row);
+        next = put_row(out, next, picture, row);
         row += 1;
     }
+    next
 }
 
-// Sixteen shapes and their codes.
-fn put_block(text: &mut [u8; 6107], at: usize, first: u8)
-    requires { ⌜ (at + 1017 ≤ 6107) × (first < 240) ⌝ }
+// Sixteen shapes under their codes.
+fn put_block(out: &mut [u8], at: usize, first: u8) -> usize
+    requires { ⌜ first < 240 ⌝ }
 {
     let memory = codes_from(first);
     let mut picture = [0u8; 128];
@@ -107,22 +123,24 @@ fn put_block(text: &mut [u8; 6107], at: usize, first: u8)
         lines: 1,
     };
     dots::picture(shown(), &memory, size, false, &mut picture);
-    put_codes(text, at, first);
-    put_rows(text, at + 113, &picture);
+    let named = put_codes(out, at, first);
+    put_rows(out, named, &picture)
 }
 
-fn print(text: &[u8; 6107]) {
-    io::write_all(STDOUT_FILENO, text);
+// The blocks from 20h to 7Fh, with an empty line between two.
+fn put_sheet(out: &mut [u8]) -> usize {
+    let mut next = put_block(out, 0, 0x20);
+    let mut first = 0x30;
+    while first < 0x80 {
+        let parted = put_byte(out, next, b'\n');
+        next = put_block(out, parted, first);
+        first += 16;
+    }
+    next
 }
 
-// Six blocks from 20h to 7Fh, with an empty line between two. What no block writes over is the end of a line.
 fn main() {
-    let mut text = [b'\n'; 6107];
-    put_block(&mut text, 0, 0x20);
-    put_block(&mut text, 1018, 0x30);
-    put_block(&mut text, 2036, 0x40);
-    put_block(&mut text, 3054, 0x50);
-    put_block(&mut text, 4072, 0x60);
-    put_block(&mut text, 5090, 0x70);
-    print(&text);
+    let mut out = [0u8; OUTPUT];
+    let length = put_sheet(&mut out);
+    io::write_all(STDOUT_FILENO, first(&out, length));
 }
