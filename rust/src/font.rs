@@ -10,7 +10,8 @@ const SHEET: &str = include_str!("../../crates/font_sheet/stdout");
 /// 256 x 8 rows, bit 4 the leftmost dot. Codes that the sheet does not show are blank.
 pub static SHAPES: LazyLock<[u8; FONT]> = LazyLock::new(|| read_sheet(SHEET));
 
-/// A sheet has blocks, parted by empty lines: a line of codes, then eight lines of rows.
+/// A sheet has blocks, parted by empty lines: a line of letters and codes, then eight lines
+/// of rows. A code has two digits, and a letter one sign.
 fn read_sheet(sheet: &str) -> [u8; FONT] {
     let mut shapes = [0; FONT];
     for block in sheet.split("\n\n") {

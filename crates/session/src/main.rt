@@ -4,7 +4,7 @@ ghost use mathlib.Core.Path.{_≡_};
 ghost use Prim.Native.Nat.{_+_, _*_, _≤_};
 ghost use lib.ListN.{length};
 ghost use Rattle.controller.specs.declared.answers.Answer.the-variants.{Done};
-use controller::is_done;
+use check::same;
 use libc::STDOUT_FILENO;
 use lines::Written;
 use lines::first;
@@ -35,13 +35,18 @@ fn print(text: &[u8]) {
     }
 }
 
-// A bad line ends the report; nothing after it was played.
-fn tell_end(text: &[u8]) {
-    let standing = play_through(text, u64::MAX);
-    let answer = standing.answer;
-    if !is_done(answer) {
-        tell_bad_line(b"session", standing.number);
+// Whether a report ends with the row of a bad line: before its last tab stand answer 12 and byte 00, and no transfer is
+// answered 12.
+fn ends_badly(report: &[u8]) -> bool {
+    let mut at = report.len();
+    while 6 < at {
+        at -= 1;
+        if report[at] == b'\t' {
+            let from = at - 6;
+            return same(&report[from..at], b"\t12\t00");
+        }
     }
+    false
 }
 
 fn report(text: &[u8])
@@ -49,8 +54,11 @@ fn report(text: &[u8])
 {
     let mut out = [0u8; OUTPUT];
     let written = write_report(text, &mut out);
-    print(first(&out, written.length));
-    tell_end(text);
+    let report = first(&out, written.length);
+    print(report);
+    if ends_badly(report) {
+        tell_bad_line(b"session", play_through(text, u64::MAX).number);
+    }
 }
 
 fn main() {
