@@ -130,7 +130,7 @@ for words in '16 3' '41 2' '16' '--bmp' '20 2 1'; do
     # shellcheck disable=SC2086
     run glass examples/hello.session $words
     turns_down "glass FILE $words" "$(head -n 1 "$work/errors")"
-    head -n 1 "$work/errors" | grep -q '^glass: allowed are '
+    head -n 1 "$work/errors" | grep -q '^glass: these words cannot be followed. Allowed are '
     count "glass FILE $words: what is allowed" $?
 done
 run glass tests/glass/bad_line.session 8 1 --pbm
@@ -290,11 +290,11 @@ ends_with 'a program that complains to nobody' 1
 wrote 'a program that complains to nobody' written
 
 program << 'end'
-echo 'session: allowed are no words' >&2
+echo 'session: these words cannot be followed' >&2
 end
 run session "$work/program"
 ends_with 'a program that tells what is allowed' 2
-told 'a program that tells what is allowed' 'session: allowed are no words'
+told 'a program that tells what is allowed' 'session: these words cannot be followed'
 
 program << 'end'
 echo written 2> /dev/null || echo 'cannot write' >&2
