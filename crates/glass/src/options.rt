@@ -55,7 +55,7 @@ fn number_from(tens: u8, ones: u8) -> Word {
     Word::Number(tens * 10 + ones)
 }
 
-// A number with one digit more, up to 99,999; no longer session has so many transfers.
+// A number with one digit more, up to 99,999: no session has so many transfers.
 fn with_digit(number: u64, digit: u8) -> Count {
     if 9_999 < number {
         return Count::Missing;
