@@ -187,8 +187,23 @@ same 'examples/README, the accounts' "$work/block"
 # --- Stand-ins. The same script over other programs: `session` is a shell that does what FILE says.
 tree=$work/tree
 mkdir -p "$tree/crates" "$tree/target/bin" "$work/kit" "$work/tmp"
-cp yaropesk README.md crates.txt "$tree"
-for name in $(sed -n 's/^\([a-z_]*\):.*/\1/p' crates.txt) extra bare; do
+cp yaropesk README.md "$tree"
+# The crates of a tree that stays as it is, whatever is added to this one.
+cat > "$tree/crates.txt" << 'end'
+# NAME: what it depends on
+controller:
+dots: controller
+font_sheet: controller dots lines io libc
+planner: controller
+cuts: planner controller lines io libc
+vectors: controller dots lines io libc
+lines: controller
+player: controller lines
+session: controller lines player io libc
+drawing: controller dots lines
+glass: controller dots lines player drawing check io os libc
+end
+for name in $(sed -n 's/^\([a-z_]*\):.*/\1/p' "$tree/crates.txt") extra bare; do
     mkdir -p "$tree/crates/$name/src"
 done
 for name in session glass bare; do
