@@ -7,3 +7,4 @@ pub mod Cases
 pub mod Rules
 pub mod Halves
 pub mod HalfRules
+pub mod Clear

@@ -55,6 +55,10 @@ unloaded rec = withRegister (rec .reg) false rec
 abbrev pub homed : Record → Record
 homed rec = unloaded (placed (Display 0) (withShift 0 rec))
 
+-- Clear does this to the record as Home does, and sets I/D=1; S stays.
+abbrev pub cleared : Record → Record
+cleared rec = withEntry (record { id = true; s = rec .entry .s }) (homed rec)
+
 -- A cursor move loads the register, fresh, in display memory; in pattern memory the register turns stale.
 unfoldable pub cursorAt : List ℕ → Counter → Record → Record
 cursorAt mem (Display cell) rec = loaded mem (placed (Display cell) rec)
@@ -72,7 +76,7 @@ addressed mem Outside rec = refused NoCell rec
 -- What each instruction does.
 unfoldable pub executed : List ℕ → Instruction → Record → Decision
 executed mem Nothing rec = changed rec
-executed mem Clear rec = done longTime Blank (homed rec)
+executed mem Clear rec = done longTime Blank (cleared rec)
 executed mem Home rec = done longTime Keep (homed rec)
 executed mem (SetEntry entry) rec = changed (withEntry entry rec)
 executed mem (SetControl control) rec = changed (withControl control rec)

@@ -16,7 +16,7 @@ use Rattle.controller.specs.declared.«record».Half.the-variants.{Empty
 use Rattle.controller.specs.declared.«record».Record.{Record}
 use Rattle.controller.specs.Answers.{numberOf}
 use Rattle.controller.specs.Bus.{decided}
-use Rattle.controller.specs.Cases.{Waits}
+use Rattle.controller.specs.Cases.{Waits, taking}
 use Rattle.controller.specs.Cells.{addressSet, onCell, placeOf}
 use Rattle.controller.specs.Decision.{performed}
 use Rattle.controller.specs.Halves.{highHalf, lowHalf}
@@ -75,25 +75,27 @@ pub record DoesNothing (rec : Record) (mem : List ℕ) (byte : ℕ) (d : Decisio
   pub place : SamePlace rec (d .rec)
   pub cells : SameCells mem d
 
--- Counter cell 0, shift 0, register stale; the rest stays. In 1,640.
+-- Counter cell 0, shift 0, register stale; what is said of neither I/D nor S stays. In 1,640.
 pub record Homes (rec : Record) (d : Decision) : Type 0 where
   pub comes : Comes d 0 0x00 1640
   pub function : SameFunction rec (d .rec)
   pub control : SameControl rec (d .rec)
-  pub entry : SameEntry rec (d .rec)
   pub shift : d .rec .shift ≡ 0
   pub counter : d .rec .counter ≡ Display 0
   pub reg : d .rec .reg ≡ rec .reg
   pub fresh : d .rec .fresh ≡ false
 
--- 01h Clear: display cells 20h, pattern cells untouched; counter, shift and register as for Home.
+-- 01h Clear: display cells 20h, pattern cells untouched; counter, shift and register as for Home; I/D is 1, and S stays.
 pub record Clears (rec : Record) (mem : List ℕ) (byte : ℕ) (d : Decision) : Type 0 where
   pub homes : Homes rec d
+  pub id : d .rec .entry .id ≡ true
+  pub s : d .rec .entry .s ≡ rec .entry .s
   pub cells : Cells mem d (λ place. cond (ltb place 80) 0x20 (getD mem place 0))
 
--- 02h-03h Home: the memory as it was.
+-- 02h-03h Home: I/D, S and the memory as they were.
 pub record GoesHome (rec : Record) (mem : List ℕ) (byte : ℕ) (d : Decision) : Type 0 where
   pub homes : Homes rec d
+  pub entry : SameEntry rec (d .rec)
   pub cells : SameCells mem d
 
 -- 04h-07h: I/D is bit 1, S bit 0.
@@ -331,13 +333,22 @@ FunctionMovesNothing =
     → let d : Decision = decided rec mem 0 byte wait in
     (d .rec .counter ≡ rec .counter) × (d .rec .shift ≡ rec .shift) × SameCells mem d
 
--- Clear leaves the rest: width, N, F, D, C, B, I/D, S and the pattern cells.
+-- Clear leaves the rest: width, N, F, D, C, B, S and the pattern cells.
 abbrev pub ClearLeavesRest : Type 0
 ClearLeavesRest =
     (rec : Record) (mem : List ℕ) (wait : ℕ) → Waits rec mem true Empty wait
     → let d : Decision = decided rec mem 0 0x01 wait in
-    SameFunction rec (d .rec) × SameControl rec (d .rec) × SameEntry rec (d .rec)
+    SameFunction rec (d .rec) × SameControl rec (d .rec) × (d .rec .entry .s ≡ rec .entry .s)
     × ((cell : ℕ) → cell < 64 → getD (performed (d .effect) mem) (80 + cell) 0 ≡ getD mem (80 + cell) 0)
+
+-- After Clear the next message runs rightward: whatever was set before, the data write that follows, at the width that the
+-- controller has and once Clear's time is over, moves the counter one to the right.
+abbrev pub ClearRunsRight : Type 0
+ClearRunsRight =
+    (wide : Bool) (rec : Record) (mem : List ℕ) (byte wait later then last : ℕ) → Waits rec mem wide Empty wait → byte < 256
+    → 1640 ≤ then
+    → let d : Decision = taking wide rec mem 0 0x01 wait later in
+    taking (d .rec .wide) (d .rec) (performed (d .effect) mem) 1 byte then last .rec .counter ≡ Display 1
 
 -- The instruction of `addressSet` puts the counter on its cell.
 abbrev pub AddressSetGoes : Type 0

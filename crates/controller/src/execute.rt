@@ -4,7 +4,8 @@ ghost use mathlib.Core.Path.{_≡_};
 ghost use Prim.Native.Nat.{_<_};
 ghost use lib.ListN.{length};
 ghost use Rattle.controller.specs.Cells.{Within, onCell};
-ghost use Rattle.controller.specs.Execute.{addressed, carried, changed, completed, cursorAt, executed, homed, loaded};
+ghost use Rattle.controller.specs.Execute.{addressed, carried, changed, cleared, completed, cursorAt, executed};
+ghost use Rattle.controller.specs.Execute.{homed, loaded};
 ghost use Rattle.controller.specs.Execute.{movedOn, placed, readOut, shifted, statusOf, unloaded, written};
 ghost use Rattle.controller.specs.Promises.{LongTimePromise, ShortTimePromise};
 ghost use Rattle.controller.specs.Record.{Ready, withControl, withEntry, withFunction};
@@ -99,6 +100,17 @@ fn home(rec: Record) -> Record
     unload_register(place_on(Counter::Display(0), next))
 }
 
+// As Home, and the counter runs rightward again.
+fn clear(rec: Record) -> Record
+    ensures { λ r. ⌜ r ≡ cleared rec ⌝ }
+{
+    let entry = Entry {
+        id: true,
+        s: rec.entry.s,
+    };
+    set_entry(entry, home(rec))
+}
+
 // In display memory a cursor move loads the register; in pattern memory it leaves it stale.
 fn cursor_to(memory: &[u8], counter: Counter, rec: Record) -> Record
     requires { ⌜ (length (now memory) ≡ 144) × (onCell counter ≡ true) ⌝ }
@@ -169,7 +181,7 @@ fn execute(memory: &[u8], instruction: Instruction, rec: Record) -> Decision
     let counter = rec.counter;
     match instruction {
         Instruction::Nothing => change(rec),
-        Instruction::Clear => finish(long_time(), Effect::Blank, home(rec)),
+        Instruction::Clear => finish(long_time(), Effect::Blank, clear(rec)),
         Instruction::Home => finish(long_time(), Effect::Keep, home(rec)),
         Instruction::SetEntry(entry) => change(set_entry(entry, rec)),
         Instruction::SetControl(control) => change(set_control(control, rec)),

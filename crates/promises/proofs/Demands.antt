@@ -8,6 +8,7 @@ use lib.ListN.{length}
 use Rattle.controller.proofs.Laws.Choice.{cond-elim}
 use Rattle.controller.proofs.Theorems.Answers.{transfer-answers, loan-answers, reset-answers}
 use Rattle.controller.proofs.Theorems.Halves.{halves-make-whole}
+use Rattle.controller.proofs.Theorems.Clear.{clear-runs-right}
 use Rattle.controller.proofs.Theorems.HalfRules.{half-rules}
 use Rattle.controller.proofs.Theorems.Rules.{data-rules, instruction-rules}
 use Rattle.controller.proofs.Theorems.Rules.{address-set-goes, clear-leaves-rest, function-moves-nothing, read-never-shifts, status-alters-nothing}
@@ -126,6 +127,7 @@ demand-2 =
             status-alters-nothing = status-alters-nothing;
             function-moves-nothing = function-moves-nothing;
             clear-leaves-rest = clear-leaves-rest;
+            clear-runs-right = clear-runs-right;
             address-set-goes = address-set-goes;
           };
       kept = transfer-keeps-sound;

@@ -5,7 +5,8 @@ use mathlib.Core.Path.{_≡_}
 use Prim.Native.Nat.{ℕ}
 use Rattle.controller.specs.HalfRules.{HalfRules}
 use Rattle.controller.specs.Rules.{DataRules, HalvesMakeWhole, InstructionRules}
-use Rattle.controller.specs.Rules.{AddressSetGoes, ClearLeavesRest, FunctionMovesNothing, ReadNeverShifts, StatusAltersNothing}
+use Rattle.controller.specs.Rules.{AddressSetGoes, ClearLeavesRest, ClearRunsRight, FunctionMovesNothing}
+use Rattle.controller.specs.Rules.{ReadNeverShifts, StatusAltersNothing}
 use Rattle.controller.specs.Answers.{numberOf}
 use Rattle.controller.specs.Theorems.{TransferAnswers, TransferKeepsSound, ResetMakesSound, EffectsFit}
 use Rattle.controller.specs.Theorems.{TransferRefusals, LoanRefusals, ResetRefusals}
@@ -54,6 +55,7 @@ pub record NamedRules : Type 0 where
   pub status-alters-nothing : StatusAltersNothing
   pub function-moves-nothing : FunctionMovesNothing
   pub clear-leaves-rest : ClearLeavesRest
+  pub clear-runs-right : ClearRunsRight
   pub address-set-goes : AddressSetGoes
 
 -- The dots on the glass: the place of each byte, the cell of each position, and the row that a code, the cursor or D gives.

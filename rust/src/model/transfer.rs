@@ -155,11 +155,12 @@ fn perform_instruction(rec: &mut Record, mem: &mut [u8], byte: u8) -> Answer {
     match byte {
         // "00h: nothing." Reading 7: it still takes 40.
         0x00 => {}
-        // "Clear: display cells 20h, counter cell 0, shift 0, register stale; the
-        // rest stays".
+        // "Clear: display cells 20h, counter cell 0, shift 0, register stale". Document
+        // 02, a: "from now on Clear sets I/D=1 and keeps S".
         0x01 => {
             blank_display(mem);
             home(rec);
+            rec.id = true;
         }
         0x02..=0x03 => home(rec),
         // "04h-07h: I/D, S."

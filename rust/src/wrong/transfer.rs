@@ -55,10 +55,17 @@ macro_rules! then {
     };
 }
 
-/// Clear sets I/D=1, as document 003 has it.
-fn clear_increments(made: &mut Made) {
+/// Clear leaves I/D as it was, as document 004 has it.
+fn clear_keeps_direction(made: &mut Made) {
     if made.instruction() == Some(0x01) {
-        made.new.id = true;
+        made.new.id = made.before.id;
+    }
+}
+
+/// Clear takes S to 0.
+fn clear_drops_s(made: &mut Made) {
+    if made.instruction() == Some(0x01) {
+        made.new.s = false;
     }
 }
 
@@ -169,7 +176,8 @@ fn busy_one_off(
 }
 
 pub const WRONG_STEPS: [(&str, Step); 13] = [
-    ("clear-increments", then!(clear_increments)),
+    ("clear-keeps-direction", then!(clear_keeps_direction)),
+    ("clear-drops-s", then!(clear_drops_s)),
     ("clear-keeps-fresh", then!(clear_keeps_fresh)),
     ("read-stays", then!(read_stays)),
     ("pattern-move-fresh", then!(pattern_move_fresh)),

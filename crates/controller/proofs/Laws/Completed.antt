@@ -30,7 +30,7 @@ use Rattle.controller.specs.declared.«record».Record.{Record}
 use Rattle.controller.specs.Answers.{isRefusal}
 use Rattle.controller.specs.Cells.{onCell, stepped, cellOfAdd, cellOfAcg, Within}
 use Rattle.controller.specs.Decision.{done, refused, Fits}
-use Rattle.controller.specs.Execute.{shortTime, longTime, changed, placed, movedOn, loaded, homed, cursorAt, shifted, addressed, executed, carried, written, readOut, completed}
+use Rattle.controller.specs.Execute.{shortTime, longTime, changed, placed, movedOn, loaded, homed, cleared, cursorAt, shifted, addressed, executed, carried, written, readOut, completed}
 use Rattle.controller.specs.Instruction.{decoded}
 use Rattle.controller.specs.Record.{resetTime, halfSound, sound, withFunction, withControl, withEntry, withShift, withRegister}
 
@@ -111,6 +111,9 @@ module _ (mem : List ℕ) (rec : Record) where
   homed-idle : Idle rec → Idle (homed rec)
   homed-idle idle = record { shift = omega arith; counter = display-on 0 (omega arith); half = idle .half }
 
+  cleared-idle : Idle rec → Idle (cleared rec)
+  cleared-idle idle = let home = homed-idle idle in record { shift = home .shift; counter = home .counter; half = home .half }
+
   shifted-idle : (up : Bool) → Idle rec → Idle (shifted up rec)
   shifted-idle up idle = record { shift = wrapped-below 80 up (rec .shift) (omega arith); counter = idle .counter; half = idle .half }
 
@@ -129,7 +132,7 @@ module _ (mem : List ℕ) (rec : Record) where
   executed-carried : (i : Instruction) → Carried mem rec (executed mem i rec)
   unfolding executed
   executed-carried Nothing = changed-carried rec refl (λ idle. idle)
-  executed-carried Clear = done-carried longTime Blank _ (le-refl longTime) refl homed-idle (λ long _. omega arith)
+  executed-carried Clear = done-carried longTime Blank _ (le-refl longTime) refl cleared-idle (λ long _. omega arith)
   executed-carried Home = done-carried longTime Keep _ (le-refl longTime) refl homed-idle (λ _ _. tt)
   executed-carried (SetEntry entry) = set-carried (withEntry entry rec) refl refl refl
   executed-carried (SetControl control) = set-carried (withControl control rec) refl refl refl

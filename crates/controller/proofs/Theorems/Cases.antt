@@ -53,7 +53,7 @@ p1 rec mem long =
     ((told 9999 .answer, told 9999 .byte), (told 10000 .answer, told 10000 .byte))
 
 -- the counter's step, at either width
-write-leads : (n : Bool) (counter : Counter) (from : ℕ) (next : Counter) (to : ℕ) → addressOf n counter ≡ from → beside true counter ≡ next
+pub write-leads : (n : Bool) (counter : Counter) (from : ℕ) (next : Counter) (to : ℕ) → addressOf n counter ≡ from → beside true counter ≡ next
     → addressOf n next ≡ to → WriteLeads n counter from next to
 unfolding badTransfer
 write-leads n counter from next to at steps there wide rec mem byte wait later w is-byte lines up place = (at, go wide w, there)

@@ -30,6 +30,7 @@ use Rattle.controller.specs.declared.decision.Decision.{Decision}
 use Rattle.controller.specs.declared.decision.Effect.{Effect}
 use Rattle.controller.specs.declared.instruction.Instruction.{Instruction}
 use Rattle.controller.specs.declared.instruction.Instruction.the-variants.{Nothing, Clear, Home, SetEntry, SetControl, MoveCursor, ShiftDisplay, SetFunction, PatternAddress}
+use Rattle.controller.specs.declared.«record».Entry.{Entry}
 use Rattle.controller.specs.declared.«record».Half.the-variants.{Empty}
 use Rattle.controller.specs.declared.«record».Record.{Record}
 use Rattle.controller.specs.Answers.{numberOf}
@@ -39,7 +40,7 @@ use Rattle.controller.specs.Decision.{performed, blanked, done, refused}
 use Rattle.controller.specs.Execute.{addressed, carried, changed, completed, cursorAt, executed, homed, loaded, movedOn, placed, readOut, shortTime, longTime, statusOf, written}
 use Rattle.controller.specs.Halves.{begun}
 use Rattle.controller.specs.Instruction.{bit, decoded}
-use Rattle.controller.specs.Record.{busyOver, waited, withShift}
+use Rattle.controller.specs.Record.{busyOver, waited, withEntry, withShift}
 use Rattle.controller.specs.Rules.{Instructs, DoesNothing, Homes, Clears, GoesHome, SetsEntry, SetsControl, isSet, neighbour, beside, MovesCounter, ShiftsDisplay, SetsFunction, GoesTo, SetsPattern, Names, LacksCell, SetsDisplay, InstructionRules, inDisplay, WritesData, ReadsData, Addresses, ReadsStatus, Wide, DataRules, ReadNeverShifts, StatusAltersNothing, FunctionMovesNothing, ClearLeavesRest, AddressSetGoes, SameFunction, SameControl, SameEntry, SamePlace}
 
 -- a byte's range says which row of the table it is
@@ -136,26 +137,28 @@ blanked-cells mem place =
     choose (ltb place 80) (λ under. front 80 0x20 (drop 80 mem) place (ltb-true place 80 under)) (λ over. back 80 0x20 mem place (ltb-false place 80 over))
 
 -- what Clear and Home leave of the record, whatever becomes of the memory
-homes : (rec : Record) (effect : Effect) → rec .half ≡ Empty → Homes rec (done longTime effect (homed (busyOver rec)))
+homes : (rec : Record) (effect : Effect) (entry : Entry) → rec .half ≡ Empty
+    → Homes rec (done longTime effect (withEntry entry (homed (busyOver rec))))
 unfolding longTime
-homes rec effect none =
+homes rec effect entry none =
     record {
       comes = record { answer = refl; byte = refl; busy = refl; half = none };
       function = record { wide = refl; n = refl; f = refl };
       control = record { d = refl; c = refl; b = refl };
-      entry = record { id = refl; s = refl };
       shift = refl;
       counter = refl;
       reg = refl;
       fresh = refl;
     }
 
-clears : Instructs 0x01 0x01 Clears
+pub clears : Instructs 0x01 0x01 Clears
 unfolding executed longTime performed
 clears rec mem byte wait w over under =
     rule Clears _ rec mem byte wait w (is-clear byte over under)
     (record {
-      homes = homes rec _ (w .holds);
+      homes = homes rec _ _ (w .holds);
+      id = refl;
+      s = refl;
       cells = λ place _. blanked-cells mem place;
     })
 
@@ -164,7 +167,8 @@ unfolding executed longTime performed
 goes-home rec mem byte wait w over under =
     rule GoesHome _ rec mem byte wait w (is-home byte over under)
     (record {
-      homes = homes rec _ (w .holds);
+      homes = homes rec _ (rec .entry) (w .holds);
+      entry = record { id = refl; s = refl };
       cells = λ _ _. refl;
     })
 
@@ -536,7 +540,7 @@ clear-leaves-rest rec mem wait w =
     let rule = clears rec mem 0x01 wait w (omega arith) (omega arith) in (
       rule .homes .function,
       rule .homes .control,
-      rule .homes .entry,
+      rule .s,
       λ cell below. rule .cells (80 + cell) (omega arith) ∙ rw (le-ltb (80 + cell) 80 (omega arith)),
     )
 

@@ -24,8 +24,8 @@ enum-told-2 c = search needs
 long-time-requires : tie.Need-long-time-requires
 long-time-requires c κs = search needs
 
-home-requires : tie.Need-home-requires
-home-requires c κs = search needs
+clear-requires : tie.Need-clear-requires
+clear-requires c κs = search needs
 
 finish-requires : tie.Need-finish-requires
 finish-requires c κs = search needs
@@ -36,8 +36,8 @@ enum-told-3 c = search needs
 long-time-requires-2 : tie.Need-long-time-requires-2
 long-time-requires-2 c κs = search needs
 
-home-requires-2 : tie.Need-home-requires-2
-home-requires-2 c κs = search needs
+home-requires : tie.Need-home-requires
+home-requires c κs = search needs
 
 finish-requires-2 : tie.Need-finish-requires-2
 finish-requires-2 c κs = search needs
@@ -125,11 +125,11 @@ returns c = simp (c .change .ensures, c .before .enum-told .given .1)
 
 returns-2 : tie.Need-returns-2
 unfolding executed
-returns-2 c = simp (c .finish .ensures, c .before .home .ensures, c .before .before .long-time .ensures, c .before .before .before .enum-told2 .given .1)
+returns-2 c = simp (c .finish .ensures, c .before .clear .ensures, c .before .before .long-time .ensures, c .before .before .before .enum-told2 .given .1)
 
 returns-3 : tie.Need-returns-3
 unfolding executed
-returns-3 c = simp (c .finish2 .ensures, c .before .home2 .ensures, c .before .before .long-time2 .ensures, c .before .before .before .enum-told3 .given .1)
+returns-3 c = simp (c .finish2 .ensures, c .before .home .ensures, c .before .before .long-time2 .ensures, c .before .before .before .enum-told3 .given .1)
 
 returns-4 : tie.Need-returns-4
 unfolding executed
@@ -167,11 +167,11 @@ execute-spec =
     change-requires
     enum-told-2
     long-time-requires
-    home-requires
+    clear-requires
     finish-requires
     enum-told-3
     long-time-requires-2
-    home-requires-2
+    home-requires
     finish-requires-2
     enum-known-instruction
     set-entry-requires
