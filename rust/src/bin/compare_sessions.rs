@@ -84,8 +84,8 @@ fn main() {
     let program = options.program();
     let seed = options.number(1, SEED);
     let texts = options.number(2, DEFAULT_TEXTS);
-    // No report shows the shift, so that one cannot be found out here: `compare_glass` does.
-    options.compare(&["read-shifts"], |model| {
+    // No report shows S or the shift, so that these two cannot be found out here: `compare_glass` and `compare_calls` do.
+    options.compare(&["read-shifts", "clear-drops-s"], |model| {
         compare(program, model, seed, texts)
     })
 }

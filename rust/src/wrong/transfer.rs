@@ -62,7 +62,7 @@ fn clear_keeps_direction(made: &mut Made) {
     }
 }
 
-/// Clear takes S to 0.
+/// Clear takes S to 0. No report shows S: this one is found out by calls.
 fn clear_drops_s(made: &mut Made) {
     if made.instruction() == Some(0x01) {
         made.new.s = false;
@@ -175,7 +175,7 @@ fn busy_one_off(
     model::transfer(before, memory, kind, byte, wait)
 }
 
-pub const WRONG_STEPS: [(&str, Step); 13] = [
+pub const WRONG_STEPS: [(&str, Step); 14] = [
     ("clear-keeps-direction", then!(clear_keeps_direction)),
     ("clear-drops-s", then!(clear_drops_s)),
     ("clear-keeps-fresh", then!(clear_keeps_fresh)),

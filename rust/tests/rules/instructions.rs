@@ -40,7 +40,7 @@ fn nothing_takes_its_time_alone() {
 }
 
 #[test]
-fn clear_and_home_leave_the_entry_mode_alone() {
+fn clear_sets_the_direction_and_home_leaves_the_entry_mode_alone() {
     let home = Record {
         shift: 0,
         counter: Counter::Display(0),
@@ -48,10 +48,12 @@ fn clear_and_home_leave_the_entry_mode_alone() {
         busy: LONG_TIME,
         ..set()
     };
-    for byte in 0x01..=0x03 {
-        for counter in [Counter::Display(5), Counter::Pattern(5)] {
-            assert_eq!(after(Record { counter, ..set() }, byte), home);
-        }
+    for counter in [Counter::Display(5), Counter::Pattern(5)] {
+        let before = Record { counter, ..set() };
+        // Document 02, a: "Clear sets I/D=1 and keeps S".
+        assert_eq!(after(before, 0x01), Record { id: true, ..home });
+        assert_eq!(after(before, 0x02), home);
+        assert_eq!(after(before, 0x03), home);
     }
 }
 
