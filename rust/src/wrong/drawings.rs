@@ -181,7 +181,7 @@ const WRONG_STATES: [(&str, Teller); 5] = [
 ];
 
 /// Those of the wrong models that no report shows.
-const WRONG_MODELS: [&str; 2] = ["read-shifts", "second-line-drawn"];
+const WRONG_MODELS: [&str; 3] = ["read-shifts", "clear-drops-s", "second-line-drawn"];
 
 /// All of them, with their names.
 pub fn all() -> Vec<(&'static str, Drawing)> {

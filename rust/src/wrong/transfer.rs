@@ -62,7 +62,7 @@ fn clear_keeps_direction(made: &mut Made) {
     }
 }
 
-/// Clear takes S to 0. No report shows S: this one is found out by calls.
+/// Clear takes S to 0. No report shows S: this one is found out by drawings and by calls.
 fn clear_drops_s(made: &mut Made) {
     if made.instruction() == Some(0x01) {
         made.new.s = false;
