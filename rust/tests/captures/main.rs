@@ -1,0 +1,6 @@
+//! The model keeps the words of document 02's request b, and its readings: captures.
+
+mod answers;
+mod falls;
+mod given;
+mod subset;
