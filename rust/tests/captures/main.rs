@@ -3,4 +3,5 @@
 mod answers;
 mod falls;
 mod given;
+mod round_trip;
 mod subset;
