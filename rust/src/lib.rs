@@ -7,6 +7,7 @@ pub mod case;
 pub mod demand;
 pub mod drawing;
 pub mod font;
+pub mod imports;
 pub mod library;
 pub mod model;
 pub mod options;

@@ -75,16 +75,20 @@ fn split(text: &[u8]) -> Vec<Vec<u8>> {
 
 /// Drops lines, many at a time and then one by one, while the difference stays.
 pub fn shrink(text: &[u8], differs: impl Fn(&[u8]) -> bool) -> Vec<u8> {
-    let mut lines = split(text);
-    let mut size = (lines.len() / 2).max(1);
+    shrink_pieces(split(text), differs)
+}
+
+/// Drops pieces of a text in the same way.
+pub fn shrink_pieces(mut pieces: Vec<Vec<u8>>, differs: impl Fn(&[u8]) -> bool) -> Vec<u8> {
+    let mut size = (pieces.len() / 2).max(1);
     loop {
         let mut dropped = false;
         let mut at = 0;
-        while at < lines.len() {
-            let mut fewer = lines.clone();
-            fewer.drain(at..(at + size).min(lines.len()));
+        while at < pieces.len() {
+            let mut fewer = pieces.clone();
+            fewer.drain(at..(at + size).min(pieces.len()));
             if differs(&fewer.concat()) {
-                lines = fewer;
+                pieces = fewer;
                 dropped = true;
             } else {
                 at += size;
@@ -93,7 +97,7 @@ pub fn shrink(text: &[u8], differs: impl Fn(&[u8]) -> bool) -> Vec<u8> {
         if size > 1 {
             size /= 2;
         } else if !dropped {
-            return lines.concat();
+            return pieces.concat();
         }
     }
 }

@@ -1,5 +1,5 @@
-//! Document 01, "What each number says": every answer has its name here, and is known by
-//! it elsewhere.
+//! Document 01, "What each number says", and the numbers of document 02's requests: every
+//! answer has its name here, and is known by it elsewhere.
 
 /// The number of an answer.
 pub type Answer = u8;
@@ -31,6 +31,12 @@ pub const TOO_SHORT: Answer = 11;
 pub const BAD_LINE: Answer = 12;
 /// "not a wish"
 pub const NOT_A_WISH: Answer = 13;
+/// Request b: "text outside the subset (a needed name twice or an undeclared code too)"
+pub const OUTSIDE_SUBSET: Answer = 14;
+/// Request b: "needed signal missing"
+pub const SIGNAL_MISSING: Answer = 15;
+/// Request b: "x or z on a needed line at a fall (DB lines only for writes)"
+pub const UNKNOWN_LEVEL: Answer = 28;
 
 /// "All but 0, 5, 7 and 8 are refusals."
 pub fn is_refusal(answer: Answer) -> bool {

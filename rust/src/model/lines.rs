@@ -36,6 +36,14 @@ pub fn write_line(kind: u8, byte: u8, wait: u32, out: &mut [u8]) -> (Answer, usi
     if out.len() < LINE_BYTES {
         return (TOO_SHORT, 0);
     }
+    let line = line_bytes(kind, byte, wait);
+    out[..line.len()].copy_from_slice(&line);
+    (DONE, line.len())
+}
+
+/// The line of a transfer, whose kind is not above 3: "`I`, `D`, `S` or `R`, tab, two
+/// upper-case hex digits, tab, decimal wait without leading zeros, newline".
+pub fn line_bytes(kind: u8, byte: u8, wait: u32) -> Vec<u8> {
     let mut line = vec![
         LETTERS[kind as usize],
         b'\t',
@@ -45,8 +53,7 @@ pub fn write_line(kind: u8, byte: u8, wait: u32, out: &mut [u8]) -> (Answer, usi
     ];
     line.extend_from_slice(wait.to_string().as_bytes());
     line.push(b'\n');
-    out[..line.len()].copy_from_slice(&line);
-    (DONE, line.len())
+    line
 }
 
 /// What the reader found in a good line.

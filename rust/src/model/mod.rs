@@ -1,13 +1,16 @@
 //! The rules of document 01 (`01-scope.md`) in plain Rust, a file for each of its chapters;
-//! "Session lines" has two.
+//! "Session lines" has two. Request b of document 02 (`02-change-requests.md`) has a folder,
+//! `capture/`.
 //!
 //! Written from the documents alone, apart from the proved code.
-//! Sentences in quotation marks are those of document 01; "reading n" is the
-//! n-th reading of docs/DECISIONS.md. Time is whole microseconds.
+//! Sentences in quotation marks are those of document 01, and in `capture/` those of the
+//! request; "reading n" is the n-th reading of docs/DECISIONS.md. Time is whole
+//! microseconds.
 //!
 //! Every function is total, and a refusal leaves lent bytes as it found them.
 
 mod answers;
+pub mod capture;
 mod dots;
 mod lines;
 mod plan;
@@ -16,6 +19,7 @@ mod session;
 mod transfer;
 
 pub use answers::*;
+pub use capture::{capture_of, import, session_text, Importer};
 pub use dots::{line_length, picture, picture_bytes, shape, shown_cell};
 pub use dots::{Size, FONT, SHAPE_ROWS};
 pub use lines::{letter, read_line, write_line, Line, LINE_BYTES};

@@ -1,15 +1,20 @@
 //! What chance makes: numbers that a seed repeats, and from them records, wishes, calls,
-//! lines and session texts, sound and damaged.
+//! lines, session texts and captures, sound and damaged.
 
 pub mod calls;
+mod captures;
 mod chance;
+mod damage;
 mod lines;
 mod phrases;
+mod pod;
 mod records;
 mod texts;
 mod wishes;
 
+pub use captures::{first_stamp, random_capture, session_to_capture, sound_capture};
 pub use chance::{Chance, SEED};
+pub use damage::every_damage;
 pub use records::{sound_record, whole_memory};
 pub use texts::{random_panel_text, random_text};
 pub use wishes::{sound_marks, sound_wish};

@@ -1,6 +1,7 @@
 //! Deliberately wrong models, a file for each chapter, and wrong drawings: a comparison
 //! that misses one of them is worth nothing.
 
+mod capture;
 mod dots;
 pub mod drawings;
 mod lines;
@@ -15,6 +16,7 @@ use plan::WRONG_PLANNERS;
 use record::{WRONG_RECORDS, WRONG_RESETS};
 use transfer::{UNSEEN_STEPS, WRONG_STEPS};
 
+pub use capture::WRONG_IMPORTERS;
 pub use plan::{first_mark_alone, plan_clears};
 
 /// A wrong function in its place, with its name.

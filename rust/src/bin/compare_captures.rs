@@ -1,0 +1,125 @@
+//! Imports random captures with the model, and finds wrong models out by them.
+//!
+//! ```text
+//! compare_captures [SEED] [CAPTURES] [--wrong | --wrong=NAME | --wrong=all]
+//! ```
+//!
+//! The captures are random ones, and every damage of a byte or of a word to some. Every
+//! answer that an import can give must have come up, or the run fails. With `--wrong` a
+//! deliberately wrong model is compared with the model; the import that tells them apart
+//! is made shorter, shown with both outcomes, and the exit is 1. `--wrong=all` tries each,
+//! and the exit is 0 if all were found out.
+
+use yaropesk_model::imports::Import;
+use yaropesk_model::model::{self, Answer, Importer};
+use yaropesk_model::model::{DONE, OUTSIDE_SUBSET, SIGNAL_MISSING, TOO_SHORT, UNKNOWN_LEVEL};
+use yaropesk_model::options::Options;
+use yaropesk_model::programs::show;
+use yaropesk_model::random::{every_damage, SEED};
+use yaropesk_model::tally::Tally;
+use yaropesk_model::wrong;
+
+const DEFAULT_CAPTURES: u64 = 20_000;
+/// How many of the first captures are damaged at every place.
+const DAMAGED: u64 = 5;
+
+/// "Refusals: 14 ..., 15 ..., 28 ..., then 11."
+const ANSWERS: [Answer; 5] = [
+    DONE,
+    TOO_SHORT,
+    OUTSIDE_SUBSET,
+    SIGNAL_MISSING,
+    UNKNOWN_LEVEL,
+];
+
+/// The model beside another, and how often it has given each answer, to random captures and
+/// to those that are damaged at every place.
+struct Comparison {
+    other: Importer,
+    random: Tally,
+    damaged: Tally,
+}
+
+/// The shortest import on which the two differ, ready to be shown.
+struct Difference(Import);
+
+fn answer_to(import: &Import) -> Answer {
+    import.run(model::import).answer
+}
+
+impl Comparison {
+    fn differs(&self, import: &Import) -> bool {
+        import.run(model::import) != import.run(self.other)
+    }
+
+    /// One import with both: the answer, or the shortest import found that the model
+    /// answers so too and on which they differ.
+    fn import(&self, import: &Import) -> Result<Answer, Difference> {
+        let answer = answer_to(import);
+        if !self.differs(import) {
+            return Ok(answer);
+        }
+        let shows = |each: &Import| answer_to(each) == answer && self.differs(each);
+        Err(Difference(import.shrunk(shows)))
+    }
+
+    fn run(&mut self, seed: u64, captures: u64) -> Result<(), Difference> {
+        for number in 0..captures {
+            let answer = self.import(&Import::random(seed, number))?;
+            self.random.count(answer);
+        }
+        for number in 0..captures.min(DAMAGED) {
+            let Import { capture, room } = Import::random(seed, number);
+            for capture in every_damage(&capture) {
+                let answer = self.import(&Import { capture, room })?;
+                self.damaged.count(answer);
+            }
+        }
+        Ok(())
+    }
+
+    fn show(&self, Difference(import): &Difference) {
+        show("shortest capture", &import.capture);
+        println!("with an output of {} bytes", import.room);
+        println!("the model: {}", import.run(model::import));
+        println!("the other: {}", import.run(self.other));
+    }
+}
+
+/// Compares; true when a difference was found, or an answer missed (and shown).
+fn compare(other: Importer, seed: u64, captures: u64) -> bool {
+    let mut comparison = Comparison {
+        other,
+        random: Tally::default(),
+        damaged: Tally::default(),
+    };
+    if let Err(difference) = comparison.run(seed, captures) {
+        comparison.show(&difference);
+        return true;
+    }
+    let (random, damaged) = (comparison.random, comparison.damaged);
+    println!("{captures} captures of seed {seed}: no difference");
+    println!("answers seen: {random}");
+    println!("damaged at every place, {}: {damaged}", damaged.sum());
+    let missed = ANSWERS
+        .into_iter()
+        .find(|&answer| random.times(answer) == 0);
+    missed
+        .inspect(|answer| println!("answer {answer} was not seen"))
+        .is_some()
+}
+
+fn main() {
+    let usage = "compare_captures [SEED] [CAPTURES]";
+    let options = Options::read(
+        usage,
+        model::import as Importer,
+        wrong::WRONG_IMPORTERS.to_vec(),
+    );
+    if options.plain.len() > 2 {
+        options.refuse();
+    }
+    let seed = options.number(0, SEED);
+    let captures = options.number(1, DEFAULT_CAPTURES);
+    options.compare(&[], |other| compare(other, seed, captures))
+}
