@@ -75,7 +75,7 @@ pub record DoesNothing (rec : Record) (mem : List ℕ) (byte : ℕ) (d : Decisio
   pub place : SamePlace rec (d .rec)
   pub cells : SameCells mem d
 
--- Counter cell 0, shift 0, register stale; what is said of neither I/D nor S stays. In 1,640.
+-- What Clear and Home share: counter cell 0, shift 0, register stale; width, N, F, D, C and B stay. In 1,640.
 pub record Homes (rec : Record) (d : Decision) : Type 0 where
   pub comes : Comes d 0 0x00 1640
   pub function : SameFunction rec (d .rec)

@@ -147,21 +147,21 @@ crossed-rule rec mem kind byte wait n good half first is of other =
     go half is first of other
   where
     -- both halves taken, with what they complete
-    both : (k b : ℕ) (half : Half) (t : Transfer) → rec .half ≡ half → noHalf half ≡ false → badTransfer k b ≡ false → eqb kind k ≡ false
+    both : (k b : ℕ) (half : Half) (t : Transfer) → rec .half ≡ half → noHalf half ≡ false → badTransfer k b ≡ false
         → narrow mem k b half (waited wait rec) ≡ secondHalf mem false t (waited wait rec)
         → narrow mem kind byte half (waited wait rec) ≡ secondHalf mem true t (waited wait rec)
         → Crosses (decided rec mem k b wait) (decided rec mem kind byte wait)
-    both k b half t is some fine apart own crossed =
+    both k b half t is some fine own crossed =
         rw (taken-second rec mem k b wait n fine half is some ∙ own, taken-second rec mem kind byte wait n good half is some ∙ crossed)
         (crossing mem t (waited wait rec))
 
     go : (half : Half) → rec .half ≡ half → (first : ℕ) → IsOf first half → (kind ≡ first → ⊥)
         → Crosses (decided rec mem first (cond (ltb first 2) byte 0x00) wait) (decided rec mem kind byte wait)
     go Empty is first never other = absurd never
-    go (InstructionWrite high) is first of other = let apart = ne-eqb kind 0 (λ e. other (e ∙ sym of)) in rw of (both 0 byte (InstructionWrite high) (Instruct (wholeByte high byte)) is refl refl apart refl (rw apart))
-    go (DataWrite high) is first of other = let apart = ne-eqb kind 1 (λ e. other (e ∙ sym of)) in rw of (both 1 byte (DataWrite high) (Write (wholeByte high byte)) is refl refl apart refl (rw apart))
-    go (StatusRead taken) is first of other = let apart = ne-eqb kind 2 (λ e. other (e ∙ sym of)) in rw of (both 2 0 (StatusRead taken) (Status taken) is refl refl apart refl (rw apart))
-    go (DataRead taken) is first of other = let apart = ne-eqb kind 3 (λ e. other (e ∙ sym of)) in rw of (both 3 0 (DataRead taken) (Read taken) is refl refl apart refl (rw apart))
+    go (InstructionWrite high) is first of other = let apart = ne-eqb kind 0 (λ e. other (e ∙ sym of)) in rw of (both 0 byte (InstructionWrite high) (Instruct (wholeByte high byte)) is refl refl refl (rw apart))
+    go (DataWrite high) is first of other = let apart = ne-eqb kind 1 (λ e. other (e ∙ sym of)) in rw of (both 1 byte (DataWrite high) (Write (wholeByte high byte)) is refl refl refl (rw apart))
+    go (StatusRead taken) is first of other = let apart = ne-eqb kind 2 (λ e. other (e ∙ sym of)) in rw of (both 2 0 (StatusRead taken) (Status taken) is refl refl refl (rw apart))
+    go (DataRead taken) is first of other = let apart = ne-eqb kind 3 (λ e. other (e ∙ sym of)) in rw of (both 3 0 (DataRead taken) (Read taken) is refl refl refl (rw apart))
 
 status-rule : (rec : Record) (mem : List ℕ) (taken wait : ℕ) → Narrow rec mem → rec .half ≡ StatusRead taken
     → EndsStatus rec mem taken wait (decided rec mem 2 0x00 wait)
