@@ -33,6 +33,9 @@
 #define YAROPESK_OUTPUT_SHORT 11  /* the output is too short */
 #define YAROPESK_BAD_LINE 12      /* no session line */
 #define YAROPESK_NOT_WISH 13      /* the wish or a mark is none */
+#define YAROPESK_OUTSIDE_SUBSET 14 /* a capture's text outside the subset */
+#define YAROPESK_SIGNAL_MISSING 15 /* a capture without a needed signal */
+#define YAROPESK_LEVEL_UNKNOWN 28  /* a capture with x or z on a needed line where E falls */
 
 /* Sizes in bytes. */
 #define YAROPESK_RECORD_SIZE 24

@@ -125,7 +125,7 @@ static void try_lines(void) {
     check("wait of a transfer", 0, memcmp(out + YAROPESK_TRANSFER_WAIT, "\x78\x56\x34\x12", 4) == 0);
 }
 
-/* The answers of a transfer. 9 cannot be had. */
+/* The answers of a transfer. 9 cannot be had; 14, 15 and 28 are for captures. */
 static void try_answers(void) {
     start();
     answered("busy", transfer(YAROPESK_INSTRUCTION_WRITE, 0x38, 9999), YAROPESK_BUSY);

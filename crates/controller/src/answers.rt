@@ -17,6 +17,9 @@ pub enum Answer {
     OutputShort,
     BadLine,
     NotWish,
+    OutsideSubset,
+    SignalMissing,
+    LevelUnknown,
 }
 
 // The number of an answer in the table.
@@ -38,6 +41,9 @@ pub fn number(answer: Answer) -> u8
         Answer::OutputShort => 11,
         Answer::BadLine => 12,
         Answer::NotWish => 13,
+        Answer::OutsideSubset => 14,
+        Answer::SignalMissing => 15,
+        Answer::LevelUnknown => 28,
     }
 }
 

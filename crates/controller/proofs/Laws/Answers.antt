@@ -9,7 +9,7 @@ use lib.Dec.{eqb, lit<}
 use borrow.Author.Tests.{eqb-true}
 use Rattle.controller.proofs.Laws.Tests.{Tests}
 use Rattle.controller.specs.declared.answers.Answer.{Answer}
-use Rattle.controller.specs.declared.answers.Answer.the-variants.{Done, Unsound, NotWhole, BadTransfer, Busy, FirstHalf, NoCell, StaleRead, CrossedHalves, CounterOff, BadSize, OutputShort, BadLine, NotWish}
+use Rattle.controller.specs.declared.answers.Answer.the-variants.{Done, Unsound, NotWhole, BadTransfer, Busy, FirstHalf, NoCell, StaleRead, CrossedHalves, CounterOff, BadSize, OutputShort, BadLine, NotWish, OutsideSubset, SignalMissing, LevelUnknown}
 use Rattle.controller.specs.Answers.{numberOf, isDone, Row, Given, Tells}
 
 -- the first of these answers that has this number
@@ -20,7 +20,7 @@ having n (answer ∷ answers) = cond (eqb (numberOf answer) n) answer (having n 
 answers : List Answer
 answers =
     Done ∷ Unsound ∷ NotWhole ∷ BadTransfer ∷ Busy ∷ FirstHalf ∷ NoCell ∷ StaleRead ∷ CrossedHalves ∷ CounterOff ∷ BadSize ∷ OutputShort
-    ∷ BadLine ∷ NotWish ∷ []
+    ∷ BadLine ∷ NotWish ∷ OutsideSubset ∷ SignalMissing ∷ LevelUnknown ∷ []
 
 -- a number of at most two digits, which no other answer has
 numbered : (answer : Answer) → (numberOf answer < 100) × (having (numberOf answer) answers ≡ answer)
@@ -39,6 +39,9 @@ numbered BadSize = (lit< tt, refl)
 numbered OutputShort = (lit< tt, refl)
 numbered BadLine = (lit< tt, refl)
 numbered NotWish = (lit< tt, refl)
+numbered OutsideSubset = (lit< tt, refl)
+numbered SignalMissing = (lit< tt, refl)
+numbered LevelUnknown = (lit< tt, refl)
 
 pub number-below : (answer : Answer) → numberOf answer < 100
 number-below answer = numbered answer .0
