@@ -15,7 +15,7 @@ use Rattle.controller.proofs.Theorems.Rules.{address-set-goes, clear-leaves-res
 use Rattle.controller.proofs.Theorems.Refusals.{transfer-refusals, loan-refusals, reset-refusals}
 use Rattle.controller.proofs.Theorems.Sound.{transfer-keeps-sound, reset-makes-sound, effects-fit}
 use Rattle.controller.specs.Bus.{badTransfer}
-use Rattle.controller.specs.Answers.{numberOf}
+use Rattle.controller.specs.Answers.{numberOf, isDone}
 use Rattle.drawing.proofs.Theorems.{draw-answers, draw-refusals}
 use Rattle.dots.proofs.Table.{table-rows, table-shapes, table-shows}
 use Rattle.dots.proofs.Theorems.{cursor-shows, each-byte, eight-rows, f-alters-nothing, five-dots, later-stay, line-shows, off-dark}
@@ -29,6 +29,8 @@ use Rattle.lines.specs.Writing.{Writing, onto, wanting, lineWriting}
 use Rattle.lines.specs.declared.writer.Written.{Written}
 use Rattle.planner.proofs.Theorems.Plan.{planned-runs}
 use Rattle.planner.proofs.Theorems.Wish.{not-wishes, plan-answers, plan-refusals}
+use Rattle.captures.proofs.Theorems.Answers.{import-answers}
+use Rattle.captures.specs.Import.{judgementOf, sessionText, importing}
 use Rattle.player.proofs.Theorems.Ends.{bad-line-ends, through-answers}
 use Rattle.player.proofs.Theorems.One.{play-answers}
 use Rattle.player.specs.Report.{report, reportSize, playing}
@@ -49,6 +51,7 @@ each-answer =
       texts = text-answers;
       play = play-answers;
       through = through-answers;
+      import = import-answers;
       draw = draw-answers;
       c-calls = call-answers;
     }
@@ -75,6 +78,11 @@ play-nothing : (text out : List ℕ) → WritesNothing (playing text out)
 unfolding playing
 play-nothing text out = wanting-nothing (reportSize text) (report text) out
 
+import-nothing : (capture out : List ℕ) → WritesNothing (importing capture out)
+unfolding importing
+import-nothing capture out =
+    cond-elim WritesNothing (isDone (judgementOf capture)) _ _ (λ _. wanting-nothing (length (sessionText capture)) (sessionText capture) out) (λ _ _. refl)
+
 pub demand-1 : Demand1
 demand-1 =
     record {
@@ -90,6 +98,7 @@ demand-1 =
       texts = λ size text out. leaves _ out (wanting-nothing size text out);
       play = λ text out. leaves _ out (play-nothing text out);
       through = bad-line-ends;
+      import = λ capture out. leaves _ out (import-nothing capture out);
       draw = draw-refusals;
       c-calls = call-refusals;
     }

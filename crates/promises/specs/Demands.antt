@@ -3,6 +3,7 @@
 use mathlib.Core.List.{List}
 use mathlib.Core.Path.{_≡_}
 use Prim.Native.Nat.{ℕ}
+use Rattle.captures.specs.Import.{importing}
 use Rattle.controller.specs.HalfRules.{HalfRules}
 use Rattle.controller.specs.Rules.{DataRules, HalvesMakeWhole, InstructionRules}
 use Rattle.controller.specs.Rules.{AddressSetGoes, ClearLeavesRest, ClearRunsRight, FunctionMovesNothing}
@@ -46,6 +47,7 @@ pub record Demand1 : Type 0 where
   pub texts : (size : ℕ) (text out : List ℕ) → LeavesBuffer (wanting size text out) out
   pub play : (text out : List ℕ) → LeavesBuffer (playing text out) out
   pub through : BadLineEnds
+  pub import : (capture out : List ℕ) → LeavesBuffer (importing capture out) out
   pub draw : DrawRefusals
   pub c-calls : CallRefusals
 

@@ -20,6 +20,7 @@ use Rattle.lines.specs.declared.writer.Written.{Written}
 use Rattle.planner.specs.declared.call.Planned.{Planned}
 use Rattle.planner.specs.declared.wish.Wish.{Wish}
 use Rattle.player.specs.declared.through.Standing.{Standing}
+use Rattle.captures.specs.Promises.{ImportPromise}
 use Rattle.controller.specs.Promises.{TransferPromise, TransferInPromise, ResetPromise, IsSoundPromise, NumberPromise}
 use Rattle.controller.specs.Promises.{IsWholePromise, IsBadPromise, IsDonePromise, IsRefusalPromise, AfterResetPromise}
 use Rattle.controller.specs.Promises.{AddressSetPromise, CellOfPromise, LittleEndianPromise, NumberFromPromise, SixBytesPromise}
@@ -84,6 +85,7 @@ pub record EachDetermined : Type 0 where
   pub write-header : (out : List ℕ) → ExactlyOne (λ (x : Written × List ℕ). WriteHeaderPromise out (x .0) (x .1))
   pub play : (text out : List ℕ) → ExactlyOne (λ (x : Written × List ℕ). PlayPromise text out (x .0) (x .1))
   pub play-through : (text : List ℕ) (most : ℕ) → ExactlyOne (λ (x : Standing). PlayThroughPromise text most x)
+  pub import : (capture out : List ℕ) → ExactlyOne (λ (x : Written × List ℕ). ImportPromise capture out (x .0) (x .1))
   pub draw : (form : Form) (rec : Record) (mem : List ℕ) (size : Size) (lit : Bool) (out : List ℕ)
       → ExactlyOne (λ (x : Written × List ℕ). DrawPromise form rec mem size lit out (x .0) (x .1))
   pub yaropesk-reset : (bytes mem : List ℕ)

@@ -1,0 +1,45 @@
+-- Each number of import is given exactly where its row applies, and no second answer fits.
+-- Assumes nothing.
+use mathlib.Core.Bool.{Bool, true, false, cond, not}
+use mathlib.Core.List.{List}
+use mathlib.Core.Path.{_≡_, refl, sym, ap, _∙_}
+use Prim.Native.Nat.{ℕ}
+use native.Mathlib.Omega.{arith}
+use lib.Dec.{ltb}
+use lib.ListN.{length}
+use Rattle.controller.proofs.Laws.Answers.{none-applies, row-applies, tells-as}
+use Rattle.controller.proofs.Laws.Tests.{Tests, Fails, tests-itself, tests-fails, tests-lt}
+use Rattle.controller.specs.Answers.{numberOf}
+use Rattle.lines.specs.Writing.{wanting}
+use Rattle.lines.proofs.Theorems.One.{one-writing}
+use Rattle.captures.specs.Import.{fallsOf, inSubset, isMissing, unknownIn, sessionText, judged, importing}
+use Rattle.captures.specs.Theorems.{importRows, ImportAnswers, OneImport}
+
+-- a test fails where it is false
+fails-itself : (test : Bool) → Fails test (test ≡ false)
+fails-itself true = record { yes = λ e. e; no = λ e is. let no-way : _≡_ {A = ℕ} 0 1 = cc in absurd (omega arith) }
+fails-itself false = record { yes = λ e. e; no = λ e is. let no-way : _≡_ {A = ℕ} 0 1 = cc in absurd (omega arith) }
+
+-- the number that the chain of choices gives, its tests by name
+numbers : (capture out : List ℕ) (inside missing unknown short : Bool) → inSubset capture ≡ inside → isMissing capture ≡ missing
+    → unknownIn (fallsOf capture) ≡ unknown → ltb (length out) (length (sessionText capture)) ≡ short
+    → numberOf (importing capture out .answer)
+    ≡ cond (not (inSubset capture)) 14 (cond (isMissing capture) 15 (cond (unknownIn (fallsOf capture)) 28 (cond (ltb (length out) (length (sessionText capture))) 11 0)))
+unfolding importing judged wanting
+numbers capture out false missing unknown short i m u s = simp i
+numbers capture out true true unknown short i m u s = simp (i, m)
+numbers capture out true false true short i m u s = simp (i, m, u)
+numbers capture out true false false true i m u s = simp (i, m, u, s)
+numbers capture out true false false false i m u s = simp (i, m, u, s)
+
+pub import-answers : ImportAnswers
+unfolding importRows
+import-answers capture out =
+    tells-as _ _ _ (numbers capture out _ _ _ _ refl refl refl refl)
+    (row-applies _ _ _ _ (tests-fails _ (fails-itself (inSubset capture)))
+    (λ _. row-applies _ _ _ _ (tests-itself (isMissing capture))
+    (λ _. row-applies _ _ _ _ (tests-itself (unknownIn (fallsOf capture)))
+    (λ _. row-applies _ _ _ _ (tests-lt (length out) (length (sessionText capture))) (λ _. none-applies)))))
+
+pub one-import : OneImport
+one-import capture out a b x y is also = one-writing (importing capture out) out a b x y is also

@@ -1,0 +1,16 @@
+-- A capture by hand, computed.
+-- Assumes nothing.
+use mathlib.Core.Path.{refl}
+use Rattle.lines.specs.Digits.{decimal, spelled, digit, numberField, byteField}
+use Rattle.lines.specs.Line.{letterOf, kindField, line, linesOf}
+use Rattle.lines.specs.Writing.{wanting}
+use Rattle.captures.specs.Words.{isBlank, joined, words, isPlain, same, placeIn}
+use Rattle.captures.specs.Form.{isScopeKind, isVarType, withDigit, numberOf, stampOf, levelOf, levelSet, opened, changing, after, past}
+use Rattle.captures.specs.Definitions.{names, placed, named, defined, definedBy, declares, lacksCode}
+use Rattle.captures.specs.Falls.{changed, stamped, moved, scanned, scannedBy, fallAt, fallsFrom}
+use Rattle.captures.specs.Import.{bit, kindOf, four, busByte, byteOf, waitFrom, sentFrom, sentBy, oneOpen, busOpen, unknownAt, unknownIn, inSubset, isMissing, sessionText, judged, importing}
+use Rattle.captures.specs.Theorems.{OneCapture}
+
+pub one-capture : OneCapture
+unfolding decimal spelled digit numberField byteField letterOf kindField line linesOf wanting isBlank joined words isPlain same placeIn isScopeKind isVarType withDigit numberOf stampOf levelOf levelSet opened changing after past names placed named defined definedBy declares lacksCode changed stamped moved scanned scannedBy fallAt fallsFrom bit kindOf four busByte byteOf waitFrom sentFrom sentBy oneOpen busOpen unknownAt unknownIn inSubset isMissing sessionText judged importing
+one-capture = refl

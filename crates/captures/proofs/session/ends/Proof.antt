@@ -1,0 +1,37 @@
+use borrow.Author.Tests.{lt-ltb, le-ltb, le-leb, lt-leb}
+use borrow.Author.Needs.{needs}
+use Rattle.captures.proofs.session.ends.Statement.{statement}
+use Rattle.captures.proofs.session.ends.Tie as tie
+
+asks-requires : tie.Need-asks-requires
+asks-requires c κs = search needs
+
+returns : tie.Need-returns
+returns c = simp (lt-ltb _ _ (rw (c .before .asks .ensures) at (c .if1 .taken)), lt-leb _ _ (rw (c .before .asks .ensures) at (c .if1 .taken)), c .before .asks .ensures)
+
+stamp-of-requires : tie.Need-stamp-of-requires
+stamp-of-requires c κs = search needs
+
+returns-2 : tie.Need-returns-2
+returns-2 c = simp (lt-ltb _ _ (rw (c .before .stamp-of .ensures) at (c .if2 .taken)), lt-leb _ _ (rw (c .before .stamp-of .ensures) at (c .if2 .taken)), c .before .stamp-of .ensures, le-ltb _ _ (rw (c .before .before .before .asks .ensures) at (c .before .before .if1 .left)), le-leb _ _ (rw (c .before .before .before .asks .ensures) at (c .before .before .if1 .left)), c .before .before .before .asks .ensures)
+
+cast-ends-stamp : tie.Need-cast-ends-stamp
+cast-ends-stamp c = search needs
+
+ends-stamp-requires : tie.Need-ends-stamp-requires
+ends-stamp-requires c κs = search needs
+
+returns-3 : tie.Need-returns-3
+returns-3 c = simp (c .ends-stamp .ensures, le-ltb _ _ (rw (c .before .before .stamp-of .ensures) at (c .before .if2 .left)), le-leb _ _ (rw (c .before .before .stamp-of .ensures) at (c .before .if2 .left)), c .before .before .stamp-of .ensures, le-ltb _ _ (rw (c .before .before .before .before .asks .ensures) at (c .before .before .before .if1 .left)), le-leb _ _ (rw (c .before .before .before .before .asks .ensures) at (c .before .before .before .if1 .left)), c .before .before .before .before .asks .ensures)
+
+pub ends-spec : {M : Type 1} → statement M
+ends-spec =
+    tie.close
+    (tie.spec
+    asks-requires
+    returns
+    stamp-of-requires
+    returns-2
+    cast-ends-stamp
+    ends-stamp-requires
+    returns-3)

@@ -1,0 +1,119 @@
+-- `captures::session::walk` meets its contract. The invariant: the buffer keeps its length, and the words that are left, read and told from
+-- here, come to what the whole text comes to. The measure is what is left of the text. Assumes nothing.
+use Prim.Native.Nat.{_≤_}
+use mathlib.Core.Path.{_≡_, refl, sym, ap, _∙_}
+use Prim.Native.Nat.{_-_}
+use native.Mathlib.Omega.{arith}
+use lib.ListN.{length, drop}
+use borrow.Author.Needs.{needs}
+use Rattle.captures.specs.declared.falls.Tally.{Tally}
+use Rattle.captures.specs.declared.scan.Scan.{Scan}
+use Rattle.captures.specs.Words.{words}
+use Rattle.captures.specs.Falls.{blankScan, scannedBy, fallsFrom}
+use Rattle.captures.specs.Walk.{spansOf, told, telling, noTally}
+use Rattle.captures.proofs.Laws.Words.{words-over}
+use Rattle.captures.proofs.Laws.Session.{scanned-step, scanned-end, told-step, told-end}
+use Rattle.captures.proofs.session.walk.Statement.{statement}
+use Rattle.captures.proofs.session.walk.Tie as tie
+
+abbrev Inv-loop : tie.InvT-loop
+Inv-loop text codes out₀ scan₀ tally₀ from₀ out scan tally from =
+    (length out ≡ length out₀)
+    × (scannedBy (words text) (spansOf text codes) scan (words (drop from text)) ≡ scannedBy (words text) (spansOf text codes) blankScan (words text))
+    × (telling (told tally out) (fallsFrom (words text) (spansOf text codes) scan (words (drop from text)))
+    ≡ telling (told noTally out₀) (fallsFrom (words text) (spansOf text codes) blankScan (words text)))
+    × (length text ≤ 9223372036854775807)
+
+abbrev μ-loop : tie.MeasureT-loop
+μ-loop text codes out₀ scan₀ tally₀ from₀ out scan tally from = length text - from
+
+blank-scan-requires : tie.Need-blank-scan-requires Inv-loop μ-loop
+blank-scan-requires c κs = search needs
+
+no-tally-requires : tie.Need-no-tally-requires Inv-loop μ-loop
+no-tally-requires c κs = search needs
+
+loop-holds : tie.Need-loop-holds Inv-loop μ-loop
+loop-holds c =
+    let args = c .before .before .before .before .args in
+    let text = args .text .now in
+    let codes = spansOf text (args .codes) in (
+      refl,
+      ap (λ (s : Scan). scannedBy (words text) codes s (words text)) (c .before .blank-scan .ensures),
+      ap (λ (s : Scan). telling (told (c .no-tally .result) (args .out .now)) (fallsFrom (words text) codes s (words text))) (c .before .blank-scan .ensures)
+          ∙ ap (λ (t : Tally). telling (told t (args .out .now)) (fallsFrom (words text) codes blankScan (words text))) (c .no-tally .ensures),
+      omega arith,
+    )
+
+word-end-requires : tie.Need-word-end-requires Inv-loop μ-loop
+word-end-requires c κs = search needs
+
+part-requires : tie.Need-part-requires Inv-loop μ-loop
+part-requires c κs = search needs
+
+ends-requires : tie.Need-ends-requires Inv-loop μ-loop
+ends-requires c κs = search needs
+
+tell-end-requires : tie.Need-tell-end-requires Inv-loop μ-loop
+tell-end-requires c κs = search needs
+
+scan-word-requires : tie.Need-scan-word-requires Inv-loop μ-loop
+scan-word-requires c κs = search needs
+
+add-from : tie.Need-add-from Inv-loop μ-loop
+add-from c =
+    let word = c .before .before .before .before .before .before .before in
+    omega (arith, word .word-end .ensures .inside, word .before .before .loop .inv .3)
+
+loop-less : tie.Need-loop-less Inv-loop μ-loop
+loop-less c =
+    let word = c .before .before .before .before .before .before .before in
+    omega (arith, word .word-end .ensures .further, word .before .loop-test .taken)
+
+loop-again : tie.Need-loop-again Inv-loop μ-loop
+loop-again c =
+    let tell = c .before .before .before in
+    let ends = tell .before .before in
+    let word = ends .before in
+    let loop = word .before .before .before in
+    let left = word .before .word-end .ensures .stands in (
+      tell .tell-end .kept .1 .1 .1 .0 ∙ loop .loop .inv .0,
+      scanned-step _ _ _ _ _ _ _ _ left (word .part .ensures) (c .scan-word .ensures) ∙ loop .loop .inv .1,
+      told-step _ _ _ _ _ _ _ _ _ _ _ left (word .part .ensures) (c .scan-word .ensures) (ends .ends .ensures) (tell .tell-end .ensures) ∙ loop .loop .inv .2,
+      loop .loop .inv .3,
+    )
+
+tell-end-requires-2 : tie.Need-tell-end-requires-2 Inv-loop μ-loop
+tell-end-requires-2 c κs = search needs
+
+same-length : tie.Need-same-length Inv-loop μ-loop
+same-length c = let tell = c .before .before in tell .tell-end2 .kept .1 .1 .1 .0 ∙ tell .before .before .before .loop .inv .0
+
+returns : tie.Need-returns Inv-loop μ-loop
+returns c =
+    let tell = c .before .before in
+    let over = tell .before .before in
+    let loop = over .before in
+    let left = words-over _ _ (over .loop-test .left) in
+    record { seen = scanned-end _ _ _ _ left ∙ loop .loop .inv .1; heard = told-end _ _ _ _ _ _ left (tell .tell-end2 .ensures) ∙ loop .loop .inv .2 }
+
+pub walk-spec : {M : Type 1} → statement M
+walk-spec =
+    tie.close
+    (tie.spec
+    Inv-loop
+    μ-loop
+    blank-scan-requires
+    no-tally-requires
+    loop-holds
+    word-end-requires
+    part-requires
+    ends-requires
+    tell-end-requires
+    scan-word-requires
+    add-from
+    loop-less
+    loop-again
+    tell-end-requires-2
+    same-length
+    returns)

@@ -1,0 +1,48 @@
+-- What is proved of captures: each theorem is a type here, and its proof stands in proofs/Theorems (request b).
+-- Assumes nothing.
+use mathlib.Core.Bool.{false, true}
+use mathlib.Core.List.{List, [], _∷_, _++_}
+use mathlib.Core.Path.{_≡_}
+use Prim.Native.Nat.{ℕ, _<_}
+use lib.ListN.{length, replicate}
+use Rattle.controller.specs.Answers.{numberOf, Row, Tells}
+use Rattle.lines.specs.declared.writer.Written.{Written}
+use Rattle.lines.specs.Text.{bytesOf}
+use Rattle.lines.specs.Writing.{Writing, Writes, writing}
+use Rattle.captures.specs.Import.{fallsOf, inSubset, isMissing, unknownIn, sessionText, importing}
+
+-- The rows of import: 14 text outside the subset, 15 needed signal missing, 28 x or z on a needed line at a fall, then 11, a
+-- buffer shorter than the session's text.
+unfoldable pub importRows : List ℕ → List ℕ → List Row
+importRows capture out =
+    record { number = 14; applies = inSubset capture ≡ false }
+    ∷ record { number = 15; applies = isMissing capture ≡ true }
+    ∷ record { number = 28; applies = unknownIn (fallsOf capture) ≡ true }
+    ∷ record { number = 11; applies = length out < length (sessionText capture) }
+    ∷ []
+
+-- Each number is given exactly where its row applies and none before it in the order.
+abbrev pub ImportAnswers : Type 0
+ImportAnswers = (capture out : List ℕ) → Tells (numberOf (importing capture out .answer)) (importRows capture out)
+
+-- No second answer fits: two outcomes that both meet the promise are one, and so are the buffers.
+abbrev pub OneImport : Type 0
+OneImport =
+    (capture out : List ℕ) (a b : Written) (x y : List ℕ)
+    → Writes (importing capture out) out a x → Writes (importing capture out) out b y → (a ≡ b) × (x ≡ y)
+
+-- The definitions of a capture by hand; another scalar stands among them and is skipped.
+abbrev pub someDefinitions : List ℕ
+someDefinitions =
+    bytesOf "$timescale 1 us $end $scope module pod $end $var wire 1 ! RS $end $var wire 1 w RW $end\n"
+    ++ (bytesOf "$var reg 1 e E $end $var wire 1 a DB0 $end $var wire 1 b DB1 $end $var wire 1 c DB2 $end\n"
+    ++ (bytesOf "$var wire 1 d DB3 $end $var wire 1 # DB4 $end $var wire 1 $ DB5 $end $var wire 1 % DB6 $end\r\n"
+    ++ bytesOf "$var wire 1 & DB7 $end $var tri 1 long-code spare $end $upscope $end $enddefinitions $end\n"))
+
+-- Its stamps and changes: Function Set 38h, and a status read 40 microseconds later, with x on a data line.
+abbrev pub someChanges : List ℕ
+someChanges = bytesOf "#7 $dumpvars 0! 0w 1e 0a 0b 0c 1d 1# 1$ 0% 0& $end #8 0e #47 1w 1e xa zlong-code #48 0e"
+
+-- It imports as these two lines.
+abbrev pub OneCapture : Type 0
+OneCapture = importing (someDefinitions ++ someChanges) (replicate 16 0) ≡ writing (bytesOf "I\t38\t0\nS\t00\t40\n")
