@@ -74,13 +74,16 @@ fn is_code(phase: Phase, word: &[u8], code: &[u8]) -> bool
     false
 }
 
-// Whether some section of the text declares the code.
+// Whether some section of the text declares the code; what stands behind the definitions is not read.
 fn is_declared(text: &[u8], code: &[u8]) -> bool
     ensures { λ r. ⌜ r ≡ declares (Phase.Section false) (words (now (text .entry))) (now (code .entry)) ⌝ }
 {
     let mut phase = Phase::Section(false);
     let mut from = 0;
     while from < text.len() {
+        if 3 <= asks(phase) {
+            return false;
+        }
         let end = word_end(text, from);
         let word = part(text, from, end);
         if is_code(phase, word, code) {

@@ -8,7 +8,7 @@ use borrow.Author.Needs.{needs}
 use Rattle.captures.specs.Words.{words}
 use Rattle.captures.specs.Definitions.{declares}
 use Rattle.captures.proofs.Laws.Words.{words-over}
-use Rattle.captures.proofs.Laws.Falls.{declares-here, declares-next, declares-none}
+use Rattle.captures.proofs.Laws.Falls.{declares-here, declares-next, declares-none, declares-over}
 use Rattle.captures.proofs.scan.is_declared.Statement.{statement}
 use Rattle.captures.proofs.scan.is_declared.Tie as tie
 
@@ -21,6 +21,12 @@ abbrev μ-loop : tie.MeasureT-loop
 loop-holds : tie.Need-loop-holds Inv-loop μ-loop
 loop-holds c = refl
 
+asks-requires : tie.Need-asks-requires Inv-loop μ-loop
+asks-requires c κs = search needs
+
+returns : tie.Need-returns Inv-loop μ-loop
+returns c = declares-over _ _ _ (rw (c .before .asks .ensures) at (c .if1 .taken)) ∙ c .before .before .before .loop .inv
+
 word-end-requires : tie.Need-word-end-requires Inv-loop μ-loop
 word-end-requires c κs = search needs
 
@@ -30,11 +36,11 @@ part-requires c κs = search needs
 is-code-requires : tie.Need-is-code-requires Inv-loop μ-loop
 is-code-requires c κs = search needs
 
-returns : tie.Need-returns Inv-loop μ-loop
-returns c =
+returns-2 : tie.Need-returns-2 Inv-loop μ-loop
+returns-2 c =
     let at = c .before .before in
-    declares-here _ _ _ _ _ _ (at .before .word-end .ensures .stands) (at .part .ensures) (sym (c .before .is-code .ensures) ∙ c .if1 .taken)
-    ∙ at .before .before .before .loop .inv
+    declares-here _ _ _ _ _ _ (at .before .word-end .ensures .stands) (at .part .ensures) (sym (c .before .is-code .ensures) ∙ c .if2 .taken)
+    ∙ at .before .before .before .before .before .loop .inv
 
 pass-requires : tie.Need-pass-requires Inv-loop μ-loop
 pass-requires c κs = search needs
@@ -48,11 +54,11 @@ loop-less c = omega (arith, c .before .before .before .before .word-end .ensures
 loop-again : tie.Need-loop-again Inv-loop μ-loop
 loop-again c =
     let at = c .before .before .before in
-    declares-next _ _ _ _ _ _ _ (at .before .word-end .ensures .stands) (at .part .ensures) (sym (c .before .before .is-code .ensures) ∙ c .before .if1 .left) (c .pass .ensures)
-    ∙ at .before .before .before .loop .inv
+    declares-next _ _ _ _ _ _ _ (at .before .word-end .ensures .stands) (at .part .ensures) (sym (c .before .before .is-code .ensures) ∙ c .before .if2 .left) (c .pass .ensures)
+    ∙ at .before .before .before .before .before .loop .inv
 
-returns-2 : tie.Need-returns-2 Inv-loop μ-loop
-returns-2 c = declares-none _ _ _ (words-over _ _ (c .loop-test .left)) ∙ c .before .loop .inv
+returns-3 : tie.Need-returns-3 Inv-loop μ-loop
+returns-3 c = declares-none _ _ _ (words-over _ _ (c .loop-test .left)) ∙ c .before .loop .inv
 
 pub is-declared-spec : {M : Type 1} → statement M
 is-declared-spec =
@@ -61,12 +67,14 @@ is-declared-spec =
     Inv-loop
     μ-loop
     loop-holds
+    asks-requires
+    returns
     word-end-requires
     part-requires
     is-code-requires
-    returns
+    returns-2
     pass-requires
     add-from
     loop-less
     loop-again
-    returns-2)
+    returns-3)
