@@ -1,2 +1,4 @@
 pub mod Answers
 pub mod Cases
+pub mod Empty
+pub mod Stamps

@@ -5,4 +5,5 @@ pub mod Falls
 pub mod Import
 pub mod Walk
 pub mod Promises
+pub mod Made
 pub mod Theorems

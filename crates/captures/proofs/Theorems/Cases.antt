@@ -1,4 +1,4 @@
--- A capture by hand, computed.
+-- A capture by hand, and captures made from a session, computed.
 -- Assumes nothing.
 use mathlib.Core.Path.{refl}
 use Rattle.lines.specs.Digits.{decimal, spelled, digit, numberField, byteField}
@@ -9,8 +9,17 @@ use Rattle.captures.specs.Form.{isScopeKind, isVarType, withDigit, numbe
 use Rattle.captures.specs.Definitions.{names, placed, named, defined, definedBy, declares, lacksCode}
 use Rattle.captures.specs.Falls.{changed, stamped, moved, scanned, scannedBy, fallAt, fallsFrom}
 use Rattle.captures.specs.Import.{bit, kindOf, four, busByte, byteOf, waitFrom, sentFrom, sentBy, oneOpen, busOpen, unknownAt, unknownIn, inSubset, isMissing, sessionText, judged, importing}
-use Rattle.captures.specs.Theorems.{OneCapture}
+use Rattle.captures.specs.Made.{madeHeader, madeStamp, madeChange, madeLines, madePulse, madePulses, captureOf, SomeMade}
+use Rattle.captures.specs.Theorems.{OneCapture, StampStartsAgain}
 
 pub one-capture : OneCapture
 unfolding decimal spelled digit numberField byteField letterOf kindField line linesOf wanting isBlank joined words isPlain same placeIn isScopeKind isVarType withDigit numberOf stampOf levelOf levelSet opened changing after past names placed named defined definedBy declares lacksCode changed stamped moved scanned scannedBy fallAt fallsFrom bit kindOf four busByte byteOf waitFrom sentFrom sentBy oneOpen busOpen unknownAt unknownIn inSubset isMissing sessionText judged importing
 one-capture = refl
+
+pub some-made : SomeMade
+unfolding decimal spelled digit numberField byteField letterOf kindField line linesOf wanting isBlank joined words isPlain same placeIn isScopeKind isVarType withDigit numberOf stampOf levelOf levelSet opened changing after past names placed named defined definedBy declares lacksCode changed stamped moved scanned scannedBy fallAt fallsFrom bit kindOf four busByte byteOf waitFrom sentFrom sentBy oneOpen busOpen unknownAt unknownIn inSubset isMissing sessionText judged importing madeHeader madeStamp madeChange madeLines madePulse madePulses captureOf
+some-made = refl
+
+pub stamp-starts-again : StampStartsAgain
+unfolding decimal spelled digit numberField byteField letterOf kindField line linesOf wanting isBlank joined words isPlain same placeIn isScopeKind isVarType withDigit numberOf stampOf levelOf levelSet opened changing after past names placed named defined definedBy declares lacksCode changed stamped moved scanned scannedBy fallAt fallsFrom bit kindOf four busByte byteOf waitFrom sentFrom sentBy oneOpen busOpen unknownAt unknownIn inSubset isMissing sessionText judged importing
+stamp-starts-again = refl

@@ -1,0 +1,63 @@
+-- A capture made from a session: one E pulse a transfer, up one microsecond before it falls (request b).
+-- Assumes nothing.
+use mathlib.Core.List.{List, [], _∷_, _++_}
+use mathlib.Core.Path.{_≡_}
+use Prim.Native.Char.{code}
+use Prim.Native.Nat.{ℕ, _+_, _/_, _%_}
+use lib.ListN.{replicate}
+use Rattle.controller.specs.declared.sent.Sent.{Sent}
+use Rattle.lines.specs.Digits.{newline, digit, decimal}
+use Rattle.lines.specs.Line.{linesOf}
+use Rattle.lines.specs.Text.{bytesOf}
+use Rattle.lines.specs.Writing.{writing}
+use Rattle.captures.specs.Import.{importing}
+
+-- The definitions: RS, RW, E and DB0 to DB7 have the codes `a` to `k`.
+unfoldable pub madeHeader : List ℕ
+madeHeader =
+    bytesOf "$timescale 1 us $end\n$var wire 1 a RS $end\n$var wire 1 b RW $end\n$var wire 1 c E $end\n"
+    ++ (bytesOf "$var wire 1 d DB0 $end\n$var wire 1 e DB1 $end\n$var wire 1 f DB2 $end\n$var wire 1 g DB3 $end\n"
+    ++ (bytesOf "$var wire 1 h DB4 $end\n$var wire 1 i DB5 $end\n$var wire 1 j DB6 $end\n$var wire 1 k DB7 $end\n"
+    ++ bytesOf "$enddefinitions $end\n"))
+
+-- A stamp, which has 32 bits.
+unfoldable pub madeStamp : ℕ → List ℕ
+madeStamp stamp = code "#" ∷ (decimal (stamp % 4294967296) ++ (newline ∷ []))
+
+-- A change: the last bit of a number, a code.
+unfoldable pub madeChange : ℕ → ℕ → List ℕ
+madeChange value letter = digit (value % 2) ∷ letter ∷ newline ∷ []
+
+-- The other lines of a transfer: RS and RW say the kind, DB0 to DB7 the byte.
+unfoldable pub madeLines : Sent → List ℕ
+madeLines t =
+    madeChange (t .kind) (code "a") ++ (madeChange (t .kind / 2) (code "b")
+    ++ (madeChange (t .byte) (code "d") ++ (madeChange (t .byte / 2) (code "e")
+    ++ (madeChange (t .byte / 4) (code "f") ++ (madeChange (t .byte / 8) (code "g")
+    ++ (madeChange (t .byte / 16) (code "h") ++ (madeChange (t .byte / 32) (code "i")
+    ++ (madeChange (t .byte / 64) (code "j") ++ madeChange (t .byte / 128) (code "k")))))))))
+
+-- The pulse of a transfer whose E falls at this stamp: up one microsecond before.
+unfoldable pub madePulse : ℕ → Sent → List ℕ
+madePulse stamp t =
+    madeStamp (stamp + 4294967295) ++ (madeLines t ++ (madeChange 1 (code "c")
+    ++ (madeStamp stamp ++ madeChange 0 (code "c"))))
+
+-- The pulses of a session, the fall before them at this stamp.
+unfoldable pub madePulses : ℕ → List Sent → List ℕ
+madePulses before [] = []
+madePulses before (t ∷ later) = madePulse (before + t .wait) t ++ madePulses (before + t .wait) later
+
+-- A capture made from a session, whose first wait is 0: its first fall is at this stamp.
+unfoldable pub captureOf : ℕ → List Sent → List ℕ
+captureOf first ts = madeHeader ++ madePulses first ts
+
+-- A session of every kind, with the shortest wait.
+abbrev pub someSession : List Sent
+someSession =
+    record { kind = 0; byte = 0x38; wait = 0 } ∷ record { kind = 1; byte = 0xA5; wait = 2 }
+    ∷ record { kind = 2; byte = 0; wait = 40 } ∷ record { kind = 3; byte = 0; wait = 3 } ∷ []
+
+-- A capture made from it imports as that session, byte for byte.
+abbrev pub SomeMade : Type 0
+SomeMade = importing (captureOf 7 someSession) (replicate 60 0) ≡ writing (linesOf someSession)
