@@ -1,7 +1,6 @@
 -- `captures::definitions::define` meets its contract: an empty word, a code, a name and any other word, each by its law. Assumes nothing.
-use mathlib.Core.Path.{_≡_, sym, ap, _∙_}
-use Rattle.captures.specs.Definitions.{Head, named}
-use Rattle.captures.specs.Walk.{headIn, span}
+use mathlib.Core.Path.{sym, _∙_}
+use Rattle.captures.specs.Walk.{headIn}
 use Rattle.captures.proofs.Laws.Definitions.{define-empty, define-code, define-name, define-rest}
 use borrow.Author.Needs.{needs}
 use Rattle.captures.proofs.definitions.define.Statement.{statement}

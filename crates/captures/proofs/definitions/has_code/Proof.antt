@@ -1,3 +1,5 @@
+-- `captures::definitions::has_code` meets its contract: a line has a code where what stands between its bounds is not empty.
+-- Assumes nothing.
 use borrow.Author.Needs.{needs}
 use Rattle.captures.proofs.definitions.has_code.Statement.{statement}
 use Rattle.captures.proofs.definitions.has_code.Tie as tie

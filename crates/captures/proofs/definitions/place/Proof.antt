@@ -1,5 +1,4 @@
 -- `captures::definitions::place` meets its contract: the line has the code at hand, and had one already or not. Assumes nothing.
-use mathlib.Core.Path.{sym, ap, _∙_}
 use Rattle.captures.specs.Definitions.{placed}
 use borrow.Author.Needs.{needs}
 use Rattle.captures.proofs.definitions.place.Statement.{statement}

@@ -1,3 +1,4 @@
+-- `captures::falls::bit` meets its contract: 1 for the level 1, and 0 for any other. Assumes nothing.
 use Rattle.captures.specs.Import.{bit}
 use borrow.Author.Tests.{eq-eqb, ne-eqb}
 use borrow.Author.Needs.{needs}

@@ -1,3 +1,4 @@
+-- `captures::falls::bus_byte` meets its contract: the lower four lines, and sixteen times the upper four. Assumes nothing.
 use Rattle.captures.specs.Import.{busByte}
 use borrow.Author.Needs.{needs}
 use Rattle.captures.proofs.falls.bus_byte.Statement.{statement}

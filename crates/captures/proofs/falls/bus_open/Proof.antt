@@ -1,3 +1,4 @@
+-- `captures::falls::bus_open` meets its contract: the lower four lines, then the upper four. Assumes nothing.
 use Rattle.captures.proofs.Laws.Falls.{or-later}
 use Rattle.captures.specs.Import.{busOpen}
 use mathlib.Core.Path.{sym, _∙_}
@@ -22,7 +23,7 @@ one-open-requires c κs = search needs
 
 returns : tie.Need-returns
 unfolding busOpen
-returns c = simp (sym (c .before .one-open .ensures) ∙ c .if1 .taken, c .before .one-open .ensures)
+returns c = simp (sym (c .before .one-open .ensures) ∙ c .if1 .taken)
 
 array-read-one-open-5 : tie.Need-array-read-one-open-5
 array-read-one-open-5 c = search needs

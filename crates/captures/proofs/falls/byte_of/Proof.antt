@@ -1,3 +1,4 @@
+-- `captures::falls::byte_of` meets its contract: a read has 00, a write what is on the bus. Assumes nothing.
 use Rattle.captures.specs.Import.{byteOf}
 use borrow.Author.Tests.{eq-eqb, ne-eqb}
 use borrow.Author.Needs.{needs}

@@ -1,3 +1,4 @@
+-- `captures::falls::four` meets its contract: each bit is at most 1, so the sum is at most 15. Assumes nothing.
 use Rattle.captures.specs.Import.{four}
 use mathlib.Core.Path.{refl}
 use borrow.Author.Needs.{needs}

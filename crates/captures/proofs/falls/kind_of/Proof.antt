@@ -1,3 +1,4 @@
+-- `captures::falls::kind_of` meets its contract: RS is worth 1 and RW 2. Assumes nothing.
 use Rattle.captures.specs.Import.{kindOf}
 use borrow.Author.Needs.{needs}
 use Rattle.captures.proofs.falls.kind_of.Statement.{statement}

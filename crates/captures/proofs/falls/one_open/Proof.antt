@@ -1,3 +1,4 @@
+-- `captures::falls::one_open` meets its contract: the four levels are tested one after the other. Assumes nothing.
 use Rattle.captures.specs.Import.{oneOpen}
 use borrow.Author.Tests.{eq-eqb, ne-eqb}
 use Rattle.captures.proofs.falls.one_open.Statement.{statement}

@@ -1,9 +1,8 @@
 -- `captures::falls::put_line` meets its contract: the line is written into a buffer of its own, which it fits, and put from there. Assumes
 -- nothing.
 use mathlib.Core.List.{List}
-use mathlib.Core.Path.{sym, ap, _∙_}
+use mathlib.Core.Path.{ap, _∙_}
 use Prim.Native.Nat.{ℕ}
-use native.Mathlib.Omega.{arith}
 use Rattle.lines.specs.Text.{Put, put, putting}
 use Rattle.captures.proofs.Laws.Tally.{line-written}
 use borrow.Author.Needs.{needs}

@@ -1,5 +1,4 @@
 -- `captures::falls::tell` meets its contract: kind, byte and wait are those of the fall, whose transfer is never bad. Assumes nothing.
-use mathlib.Core.Path.{sym, _∙_}
 use Rattle.captures.proofs.Laws.Tally.{fall-good, tell-is}
 use borrow.Author.Needs.{needs}
 use Rattle.captures.proofs.falls.tell.Statement.{statement}

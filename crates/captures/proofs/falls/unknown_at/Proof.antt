@@ -1,3 +1,4 @@
+-- `captures::falls::unknown_at` meets its contract: RS, RW, and DB0 to DB7 where RW is 0. Assumes nothing.
 use Rattle.captures.specs.Import.{unknownAt}
 use borrow.Author.Tests.{eq-eqb, ne-eqb}
 use borrow.Author.Needs.{needs}

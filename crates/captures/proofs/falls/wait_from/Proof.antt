@@ -1,7 +1,5 @@
 -- `captures::falls::wait_from` meets its contract: the difference that wraps is the one modulo 4,294,967,296. Assumes nothing.
-use native.Mathlib.Omega.{arith}
 use Rattle.captures.proofs.Laws.Tally.{wait-is}
-use Rattle.captures.specs.Import.{waitFrom}
 use borrow.Author.Needs.{needs}
 use Rattle.captures.proofs.falls.wait_from.Statement.{statement}
 use Rattle.captures.proofs.falls.wait_from.Tie as tie

@@ -1,3 +1,4 @@
+-- `captures::form::after_word` meets its contract: a case for each phase, in the order of the definition. Assumes nothing.
 use Rattle.captures.specs.Form.{after}
 use borrow.Author.Needs.{needs}
 use Rattle.captures.proofs.form.after_word.Statement.{statement}
@@ -122,19 +123,19 @@ enum-told-6 c = search needs
 
 returns : tie.Need-returns
 unfolding after
-returns c = simp (c .«open» .ensures, c .before .before .phase .given .1, c .before .before .before .before .same .ensures)
+returns c = simp (c .«open» .ensures, c .before .before .phase .given .1)
 
 returns-2 : tie.Need-returns-2
 unfolding after
-returns-2 c = simp (c .scale .ensures, c .before .enum-told .given .1, c .before .before .before .same .ensures)
+returns-2 c = simp (c .scale .ensures, c .before .enum-told .given .1)
 
 returns-3 : tie.Need-returns-3
 unfolding after
-returns-3 c = simp (c .pick .ensures, c .before .same2 .ensures, c .before .before .before .enum-told2 .given .1, c .before .before .before .before .before .same .ensures)
+returns-3 c = simp (c .pick .ensures, c .before .same2 .ensures, c .before .before .before .enum-told2 .given .1)
 
 returns-4 : tie.Need-returns-4
 unfolding after
-returns-4 c = simp (c .pick2 .ensures, c .before .is-scope-kind .ensures, c .before .before .before .phase2 .given .1, c .before .before .before .before .before .same .ensures)
+returns-4 c = simp (c .pick2 .ensures, c .before .is-scope-kind .ensures, c .before .before .before .phase2 .given .1)
 
 returns-5 : tie.Need-returns-5
 unfolding after
@@ -142,11 +143,11 @@ returns-5 c = simp (c .pick3 .ensures, c .before .before .phase3 .given .1, c .b
 
 returns-6 : tie.Need-returns-6
 unfolding after
-returns-6 c = simp (c .pick4 .ensures, c .before .is-var-type .ensures, c .before .before .before .phase4 .given .1, c .before .before .before .before .before .same .ensures)
+returns-6 c = simp (c .pick4 .ensures, c .before .is-var-type .ensures, c .before .before .before .phase4 .given .1)
 
 returns-7 : tie.Need-returns-7
 unfolding after
-returns-7 c = simp (c .pick5 .ensures, c .before .same3 .ensures, c .before .before .before .before .phase5 .given .1, c .before .before .before .before .before .before .same .ensures)
+returns-7 c = simp (c .pick5 .ensures, c .before .same3 .ensures, c .before .before .before .before .phase5 .given .1)
 
 returns-8 : tie.Need-returns-8
 unfolding after
@@ -166,7 +167,7 @@ returns-11 c = simp (c .pick9 .ensures, c .before .enum-told3 .given .1, c .befo
 
 returns-12 : tie.Need-returns-12
 unfolding after
-returns-12 c = simp (c .pick10 .ensures, c .before .change .ensures, c .before .before .same4 .ensures, c .before .before .before .before .enum-told4 .given .1, c .before .before .before .before .before .before .same .ensures)
+returns-12 c = simp (c .pick10 .ensures, c .before .change .ensures, c .before .before .same4 .ensures, c .before .before .before .before .enum-told4 .given .1)
 
 returns-13 : tie.Need-returns-13
 unfolding after
@@ -174,7 +175,7 @@ returns-13 c = simp (c .pick11 .ensures, c .before .change2 .ensures, c .before 
 
 returns-14 : tie.Need-returns-14
 unfolding after
-returns-14 c = simp (c .enum-told6 .given .1, c .before .before .same .ensures)
+returns-14 c = simp (c .enum-told6 .given .1)
 
 pub after-word-spec : {M : Type 1} → statement M
 after-word-spec =

@@ -1,3 +1,4 @@
+-- `captures::form::change` meets its contract: a change, a stamp where one can stand, or neither. Assumes nothing.
 use Rattle.captures.specs.Form.{changing}
 use borrow.Author.Tests.{lt-ltb, le-ltb, le-leb, lt-leb}
 use borrow.Author.Needs.{needs}
@@ -9,7 +10,7 @@ level-set-requires c κs = search needs
 
 returns : tie.Need-returns
 unfolding changing
-returns c = simp (lt-ltb _ _ (rw (c .before .level-set .ensures) at (c .if1 .taken)), lt-leb _ _ (rw (c .before .level-set .ensures) at (c .if1 .taken)), c .before .level-set .ensures)
+returns c = simp (lt-ltb _ _ (rw (c .before .level-set .ensures) at (c .if1 .taken)))
 
 stamp-of-requires : tie.Need-stamp-of-requires
 stamp-of-requires c κs = search needs
@@ -19,11 +20,11 @@ pick-requires c κs = search needs
 
 returns-2 : tie.Need-returns-2
 unfolding changing
-returns-2 c = simp (c .pick .ensures, le-ltb _ _ (rw (c .before .before .stamp-of .ensures) at (c .before .if2 .taken)), le-leb _ _ (rw (c .before .before .stamp-of .ensures) at (c .before .if2 .taken)), c .before .before .stamp-of .ensures, le-ltb _ _ (rw (c .before .before .before .before .level-set .ensures) at (c .before .before .before .if1 .left)), le-leb _ _ (rw (c .before .before .before .before .level-set .ensures) at (c .before .before .before .if1 .left)), c .before .before .before .before .level-set .ensures)
+returns-2 c = simp (c .pick .ensures, le-leb _ _ (rw (c .before .before .stamp-of .ensures) at (c .before .if2 .taken)), le-ltb _ _ (rw (c .before .before .before .before .level-set .ensures) at (c .before .before .before .if1 .left)))
 
 returns-3 : tie.Need-returns-3
 unfolding changing
-returns-3 c = simp (lt-ltb _ _ (rw (c .before .stamp-of .ensures) at (c .if2 .left)), lt-leb _ _ (rw (c .before .stamp-of .ensures) at (c .if2 .left)), c .before .stamp-of .ensures, le-ltb _ _ (rw (c .before .before .before .level-set .ensures) at (c .before .before .if1 .left)), le-leb _ _ (rw (c .before .before .before .level-set .ensures) at (c .before .before .if1 .left)), c .before .before .before .level-set .ensures)
+returns-3 c = simp (lt-leb _ _ (rw (c .before .stamp-of .ensures) at (c .if2 .left)), le-ltb _ _ (rw (c .before .before .before .level-set .ensures) at (c .before .before .if1 .left)))
 
 pub change-spec : {M : Type 1} → statement M
 change-spec =

@@ -1,3 +1,4 @@
+-- `captures::form::level_of` meets its contract: six bytes say a level, and any other says none. Assumes nothing.
 use Rattle.captures.specs.Form.{levelOf}
 use borrow.Author.Tests.{ne-eqb}
 use Rattle.captures.proofs.form.level_of.Statement.{statement}

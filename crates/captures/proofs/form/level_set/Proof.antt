@@ -1,8 +1,6 @@
 -- `captures::form::level_set` meets its contract: a change has a level and a code, two bytes or more. Assumes nothing.
 use mathlib.Core.Path.{sym, _∙_}
 use Rattle.captures.proofs.Laws.Form.{level-short, level-long}
-use Rattle.captures.specs.Form.{levelSet}
-use borrow.Author.Tests.{lt-ltb, le-ltb, le-leb, lt-leb}
 use borrow.Author.Needs.{needs}
 use Rattle.captures.proofs.form.level_set.Statement.{statement}
 use Rattle.captures.proofs.form.level_set.Tie as tie

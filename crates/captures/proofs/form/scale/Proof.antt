@@ -1,3 +1,4 @@
+-- `captures::form::scale` meets its contract: `1us` is the whole timescale, `1` its number. Assumes nothing.
 use Rattle.captures.specs.Form.{after}
 use mathlib.Core.Path.{sym, _∙_}
 use borrow.Author.Needs.{needs}
@@ -12,7 +13,7 @@ same-requires c κs = search needs
 
 returns : tie.Need-returns
 unfolding after
-returns c = simp (sym (c .before .same .ensures) ∙ c .if1 .taken, c .before .same .ensures)
+returns c = simp (sym (c .before .same .ensures) ∙ c .if1 .taken)
 
 slice-aggregate-same-2 : tie.Need-slice-aggregate-same-2
 slice-aggregate-same-2 c = search needs
@@ -25,7 +26,7 @@ pick-requires c κs = search needs
 
 returns-2 : tie.Need-returns-2
 unfolding after
-returns-2 c = simp (c .pick .ensures, c .before .same2 .ensures, sym (c .before .before .before .before .same .ensures) ∙ c .before .before .before .if1 .left, c .before .before .before .before .same .ensures)
+returns-2 c = simp (c .pick .ensures, c .before .same2 .ensures, sym (c .before .before .before .before .same .ensures) ∙ c .before .before .before .if1 .left)
 
 pub scale-spec : {M : Type 1} → statement M
 scale-spec =

@@ -1,6 +1,6 @@
 -- `captures::form::stamp_of` meets its contract. The invariant: the digits that are left, behind the number so far, say what the word says.
 -- The measure is what is left of the word. Assumes nothing.
-use mathlib.Core.Path.{_≡_, refl, sym, ap, _∙_}
+use mathlib.Core.Path.{_≡_, sym, ap, _∙_}
 use Prim.Native.Nat.{ℕ, _+_, _-_, _≤_}
 use native.Mathlib.Omega.{arith}
 use lib.ListN.{length, drop}

@@ -1,3 +1,4 @@
+-- `captures::scan::alter` meets its contract: the levels are set, and what is strange is noted beside. Assumes nothing.
 use borrow.Author.Needs.{needs}
 use Rattle.captures.proofs.scan.alter.Statement.{statement}
 use Rattle.captures.proofs.scan.alter.Tie as tie

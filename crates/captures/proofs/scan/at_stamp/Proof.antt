@@ -1,3 +1,4 @@
+-- `captures::scan::at_stamp` meets its contract: E is kept where the stamp before ends. Assumes nothing.
 use Rattle.captures.specs.Falls.{stamped}
 use borrow.Author.Needs.{needs}
 use Rattle.captures.proofs.scan.at_stamp.Statement.{statement}

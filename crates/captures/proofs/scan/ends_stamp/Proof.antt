@@ -1,3 +1,4 @@
+-- `captures::scan::ends_stamp` meets its contract: the first stamp ends none, and a later one where it is another. Assumes nothing.
 use borrow.Author.Needs.{needs}
 use Rattle.captures.proofs.scan.ends_stamp.Statement.{statement}
 use Rattle.captures.proofs.scan.ends_stamp.Tie as tie

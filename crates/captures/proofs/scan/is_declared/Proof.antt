@@ -1,6 +1,6 @@
 -- `captures::scan::is_declared` meets its contract. The invariant: the words that are left, from the phase at hand, declare the code just
 -- where the whole text does. The measure is what is left of the text. Assumes nothing.
-use mathlib.Core.Path.{_≡_, refl, sym, ap, _∙_}
+use mathlib.Core.Path.{_≡_, refl, sym, _∙_}
 use Prim.Native.Nat.{_-_}
 use native.Mathlib.Omega.{arith}
 use lib.ListN.{length, drop}

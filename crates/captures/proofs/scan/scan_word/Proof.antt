@@ -1,7 +1,6 @@
 -- `captures::scan::scan_word` meets its contract: a word of the definitions, a stamp, a change and any other, each by its law. Assumes
 -- nothing.
-use mathlib.Core.Path.{_≡_, sym, ap, _∙_}
-use native.Mathlib.Omega.{arith}
+use mathlib.Core.Path.{ap, _∙_}
 use Rattle.captures.specs.declared.form.Phase.{Phase}
 use Rattle.captures.specs.Words.{Word, words}
 use Rattle.captures.specs.Falls.{altered, stamped, inPhase}

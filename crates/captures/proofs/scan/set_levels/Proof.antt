@@ -1,7 +1,7 @@
 -- `captures::scan::set_levels` meets its contract. The invariant: the levels are those where every line before this one is changed. The
 -- measure is the lines that are left. Assumes nothing.
 use Prim.Native.Nat.{ℕ}
-use mathlib.Core.Path.{_≡_, refl, sym, ap, _∙_}
+use mathlib.Core.Path.{_≡_, refl, ap, _∙_}
 use Prim.Native.Nat.{_-_, _≤_}
 use native.Mathlib.Omega.{arith}
 use borrow.Author.Needs.{needs}

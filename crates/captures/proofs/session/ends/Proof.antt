@@ -1,4 +1,6 @@
-use borrow.Author.Tests.{lt-ltb, le-ltb, le-leb, lt-leb}
+-- `captures::session::ends` meets its contract: the three tests one after the other: changes can come, the word is a stamp, and it ends the one before it.
+-- Assumes nothing.
+use borrow.Author.Tests.{le-leb, lt-leb}
 use borrow.Author.Needs.{needs}
 use Rattle.captures.proofs.session.ends.Statement.{statement}
 use Rattle.captures.proofs.session.ends.Tie as tie
@@ -7,13 +9,13 @@ asks-requires : tie.Need-asks-requires
 asks-requires c κs = search needs
 
 returns : tie.Need-returns
-returns c = simp (lt-ltb _ _ (rw (c .before .asks .ensures) at (c .if1 .taken)), lt-leb _ _ (rw (c .before .asks .ensures) at (c .if1 .taken)), c .before .asks .ensures)
+returns c = simp (lt-leb _ _ (rw (c .before .asks .ensures) at (c .if1 .taken)))
 
 stamp-of-requires : tie.Need-stamp-of-requires
 stamp-of-requires c κs = search needs
 
 returns-2 : tie.Need-returns-2
-returns-2 c = simp (lt-ltb _ _ (rw (c .before .stamp-of .ensures) at (c .if2 .taken)), lt-leb _ _ (rw (c .before .stamp-of .ensures) at (c .if2 .taken)), c .before .stamp-of .ensures, le-ltb _ _ (rw (c .before .before .before .asks .ensures) at (c .before .before .if1 .left)), le-leb _ _ (rw (c .before .before .before .asks .ensures) at (c .before .before .if1 .left)), c .before .before .before .asks .ensures)
+returns-2 c = simp (lt-leb _ _ (rw (c .before .stamp-of .ensures) at (c .if2 .taken)), le-leb _ _ (rw (c .before .before .before .asks .ensures) at (c .before .before .if1 .left)))
 
 cast-ends-stamp : tie.Need-cast-ends-stamp
 cast-ends-stamp c = search needs
@@ -22,7 +24,7 @@ ends-stamp-requires : tie.Need-ends-stamp-requires
 ends-stamp-requires c κs = search needs
 
 returns-3 : tie.Need-returns-3
-returns-3 c = simp (c .ends-stamp .ensures, le-ltb _ _ (rw (c .before .before .stamp-of .ensures) at (c .before .if2 .left)), le-leb _ _ (rw (c .before .before .stamp-of .ensures) at (c .before .if2 .left)), c .before .before .stamp-of .ensures, le-ltb _ _ (rw (c .before .before .before .before .asks .ensures) at (c .before .before .before .if1 .left)), le-leb _ _ (rw (c .before .before .before .before .asks .ensures) at (c .before .before .before .if1 .left)), c .before .before .before .before .asks .ensures)
+returns-3 c = simp (c .ends-stamp .ensures, le-leb _ _ (rw (c .before .before .stamp-of .ensures) at (c .before .if2 .left)), c .before .before .stamp-of .ensures, le-leb _ _ (rw (c .before .before .before .before .asks .ensures) at (c .before .before .before .if1 .left)))
 
 pub ends-spec : {M : Type 1} → statement M
 ends-spec =

@@ -1,13 +1,12 @@
 -- `captures::session::import` meets its contract: the first walk, into no buffer, judges the capture and measures its session's text; the
 -- second writes it. Assumes nothing.
 use mathlib.Core.Logic.{⊎-elim}
-use mathlib.Core.Path.{_≡_, refl, sym, ap, _∙_}
+use mathlib.Core.Path.{_≡_, sym, ap, _∙_}
 use Prim.Native.Nat.{ℕ, _<_, _≤_}
 use native.Mathlib.Omega.{arith}
 use lib.ListN.{length}
 use borrow.Author.Tests.{not-true, not-false}
 use Rattle.controller.specs.declared.answers.Answer.the-variants.{Done}
-use Rattle.lines.specs.declared.writer.Written.{Written}
 use Rattle.captures.specs.Import.{sessionText}
 use Rattle.captures.proofs.Laws.Import.{judged-is, length-is, out-is, refused, too-short, imported}
 use borrow.Author.Needs.{needs}

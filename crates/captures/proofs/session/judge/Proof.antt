@@ -1,3 +1,4 @@
+-- `captures::session::judge` meets its contract: the refusals in the order of the definition. Assumes nothing.
 use Rattle.captures.specs.Import.{judged}
 use Rattle.captures.proofs.session.judge.Statement.{statement}
 use Rattle.captures.proofs.session.judge.Tie as tie

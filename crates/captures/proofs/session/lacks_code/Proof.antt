@@ -1,12 +1,9 @@
 -- `captures::session::lacks_code` meets its contract. The invariant: the lines before this one lack a code just where all lines do. The
 -- measure is the line. Assumes nothing.
-use mathlib.Core.Bool.{Bool, _||_}
-use mathlib.Core.Path.{_≡_, refl, sym, ap, _∙_}
-use Prim.Native.Nat.{_≤_, _-_}
+use mathlib.Core.Path.{_≡_, refl, _∙_}
+use Prim.Native.Nat.{_≤_}
 use native.Mathlib.Omega.{arith}
-use lib.ListN.{length}
 use borrow.Author.Needs.{needs}
-use borrow.Author.Tests.{eq-eqb, ne-eqb}
 use Rattle.captures.specs.Definitions.{lacksCode}
 use Rattle.captures.specs.Walk.{spansOf}
 use Rattle.captures.proofs.Laws.Session.{lacks-here, lacks-next, lacks-none}

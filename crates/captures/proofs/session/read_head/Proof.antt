@@ -1,6 +1,6 @@
 -- `captures::session::read_head` meets its contract. The invariant: the words that are left, read from here, come to the definitions of the
 -- whole text. The measure is what is left of the text. Assumes nothing.
-use mathlib.Core.Path.{_≡_, refl, sym, ap, _∙_}
+use mathlib.Core.Path.{_≡_, ap, _∙_}
 use Prim.Native.Nat.{_-_}
 use native.Mathlib.Omega.{arith}
 use lib.ListN.{length, drop}

@@ -1,7 +1,7 @@
 -- `captures::session::walk` meets its contract. The invariant: the buffer keeps its length, and the words that are left, read and told from
 -- here, come to what the whole text comes to. The measure is what is left of the text. Assumes nothing.
 use Prim.Native.Nat.{_≤_}
-use mathlib.Core.Path.{_≡_, refl, sym, ap, _∙_}
+use mathlib.Core.Path.{_≡_, refl, ap, _∙_}
 use Prim.Native.Nat.{_-_}
 use native.Mathlib.Omega.{arith}
 use lib.ListN.{length, drop}

@@ -1,3 +1,4 @@
+-- `captures::words::is_blank` meets its contract: the four blanks are tested one after the other. Assumes nothing.
 use Rattle.captures.specs.Words.{isBlank}
 use borrow.Author.Tests.{eq-eqb, ne-eqb}
 use Rattle.captures.proofs.words.is_blank.Statement.{statement}

@@ -1,9 +1,8 @@
 -- `captures::words::part` meets its contract: places past the text's end leave what is there. Assumes nothing.
-use mathlib.Core.Path.{refl, sym, ap, _∙_}
+use mathlib.Core.Path.{refl}
 use mathlib.Core.Logic.{inl, inr}
 use native.Mathlib.Omega.{arith}
 use Rattle.captures.proofs.Laws.Words.{span-none, span-all}
-use borrow.Author.Tests.{lt-ltb, le-ltb, le-leb, lt-leb}
 use borrow.Author.Needs.{needs}
 use Rattle.captures.proofs.words.part.Statement.{statement}
 use Rattle.captures.proofs.words.part.Tie as tie

@@ -1,9 +1,7 @@
 -- `captures::words::place_in` meets its contract. The invariant: the words passed, and the word's place among those that are left, come to
 -- its place among all. The measure is what is left of the list. Assumes nothing.
-use mathlib.Core.List.{List}
-use Prim.Native.Nat.{ℕ}
 use Rattle.captures.specs.Words.{Word, same}
-use mathlib.Core.Path.{_≡_, refl, sym, ap, _∙_}
+use mathlib.Core.Path.{_≡_, sym, ap, _∙_}
 use Prim.Native.Nat.{_+_, _-_, _≤_}
 use native.Mathlib.Omega.{arith}
 use lib.ListN.{length, drop}

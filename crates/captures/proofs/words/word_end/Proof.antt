@@ -1,7 +1,7 @@
 -- `captures::words::word_end` meets its contract. The invariant: no byte from the start up to here is a blank. The measure is what is left
 -- of the text. Assumes nothing.
 use mathlib.Core.Bool.{false}
-use mathlib.Core.Path.{_≡_, sym, ap, _∙_}
+use mathlib.Core.Path.{_≡_, sym, _∙_}
 use Prim.Native.Nat.{ℕ, _+_, _-_, _<_, _≤_}
 use native.Mathlib.Omega.{arith}
 use lib.ListN.{length, getD}
