@@ -6,6 +6,7 @@ use Rattle.controller.specs.declared.answers.Answer.{Answer}
 use Rattle.controller.specs.declared.answers.Answer.the-variants.{Done, Unsound, NotWhole, BadTransfer, Busy, FirstHalf}
 use Rattle.controller.specs.declared.answers.Answer.the-variants.{NoCell, StaleRead, CrossedHalves, CounterOff, BadSize}
 use Rattle.controller.specs.declared.answers.Answer.the-variants.{OutputShort, BadLine, NotWish}
+use Rattle.controller.specs.declared.answers.Answer.the-variants.{OutsideSubset, SignalMissing, LevelUnknown}
 use Rattle.lines.specs.Text.{bytesOf}
 
 -- What the table says of each answer.
@@ -24,3 +25,6 @@ answerWords BadSize = bytesOf "columns or lines out of range"
 answerWords OutputShort = bytesOf "output too short"
 answerWords BadLine = bytesOf "bad line"
 answerWords NotWish = bytesOf "not a wish"
+answerWords OutsideSubset = bytesOf "text outside the subset"
+answerWords SignalMissing = bytesOf "needed signal missing"
+answerWords LevelUnknown = bytesOf "x or z on a needed line at a fall"

@@ -22,5 +22,8 @@ pub fn put_answer(out: &mut [u8], at: usize, answer: Answer) -> usize
         Answer::OutputShort => put_text(out, at, b"output too short"),
         Answer::BadLine => put_text(out, at, b"bad line"),
         Answer::NotWish => put_text(out, at, b"not a wish"),
+        Answer::OutsideSubset => put_text(out, at, b"text outside the subset"),
+        Answer::SignalMissing => put_text(out, at, b"needed signal missing"),
+        Answer::LevelUnknown => put_text(out, at, b"x or z on a needed line at a fall"),
     }
 }

@@ -59,6 +59,9 @@ pub fn words(answer: Answer) -> &'static str {
         TOO_SHORT => "output too short",
         BAD_LINE => "bad line",
         NOT_A_WISH => "not a wish",
+        OUTSIDE_SUBSET => "text outside the subset",
+        SIGNAL_MISSING => "needed signal missing",
+        UNKNOWN_LEVEL => "x or z on a needed line at a fall",
         _ => unreachable!("no such answer is given"),
     }
 }

@@ -131,6 +131,33 @@ slice-aggregate-put-text-14 c = search needs
 put-text-requires-14 : tie.Need-put-text-requires-14
 put-text-requires-14 c κs = search needs
 
+enum-told-15 : tie.Need-enum-told-15
+enum-told-15 c = search needs
+
+slice-aggregate-put-text-15 : tie.Need-slice-aggregate-put-text-15
+slice-aggregate-put-text-15 c = search needs
+
+put-text-requires-15 : tie.Need-put-text-requires-15
+put-text-requires-15 c κs = search needs
+
+enum-told-16 : tie.Need-enum-told-16
+enum-told-16 c = search needs
+
+slice-aggregate-put-text-16 : tie.Need-slice-aggregate-put-text-16
+slice-aggregate-put-text-16 c = search needs
+
+put-text-requires-16 : tie.Need-put-text-requires-16
+put-text-requires-16 c κs = search needs
+
+enum-told-17 : tie.Need-enum-told-17
+enum-told-17 c = search needs
+
+slice-aggregate-put-text-17 : tie.Need-slice-aggregate-put-text-17
+slice-aggregate-put-text-17 c = search needs
+
+put-text-requires-17 : tie.Need-put-text-requires-17
+put-text-requires-17 c κs = search needs
+
 same-length : tie.Need-same-length
 same-length c = search needs
 
@@ -229,6 +256,27 @@ returns-14 : tie.Need-returns-14
 unfolding answerWords
 returns-14 c = simp (c .before .before .before .before .before .enum-told14 .given .1) (search needs)
 
+same-length-15 : tie.Need-same-length-15
+same-length-15 c = search needs
+
+returns-15 : tie.Need-returns-15
+unfolding answerWords
+returns-15 c = simp (c .before .before .before .before .before .enum-told15 .given .1) (search needs)
+
+same-length-16 : tie.Need-same-length-16
+same-length-16 c = search needs
+
+returns-16 : tie.Need-returns-16
+unfolding answerWords
+returns-16 c = simp (c .before .before .before .before .before .enum-told16 .given .1) (search needs)
+
+same-length-17 : tie.Need-same-length-17
+same-length-17 c = search needs
+
+returns-17 : tie.Need-returns-17
+unfolding answerWords
+returns-17 c = simp (c .before .before .before .before .before .enum-told17 .given .1) (search needs)
+
 pub put-answer-spec : {M : Type 1} → statement M
 put-answer-spec =
     tie.close
@@ -275,6 +323,15 @@ put-answer-spec =
     enum-told-14
     slice-aggregate-put-text-14
     put-text-requires-14
+    enum-told-15
+    slice-aggregate-put-text-15
+    put-text-requires-15
+    enum-told-16
+    slice-aggregate-put-text-16
+    put-text-requires-16
+    enum-told-17
+    slice-aggregate-put-text-17
+    put-text-requires-17
     same-length
     returns
     same-length-2
@@ -302,4 +359,10 @@ put-answer-spec =
     same-length-13
     returns-13
     same-length-14
-    returns-14)
+    returns-14
+    same-length-15
+    returns-15
+    same-length-16
+    returns-16
+    same-length-17
+    returns-17)
