@@ -5,3 +5,7 @@ pub mod Falls
 pub mod Tally
 pub mod Session
 pub mod Import
+pub mod MadeText
+pub mod MadeLevels
+pub mod MadeHeader
+pub mod MadePulse

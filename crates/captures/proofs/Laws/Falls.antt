@@ -77,7 +77,7 @@ pub or-later : (a b c : Bool) → a ≡ false → c ≡ b → c ≡ a || b
 or-later a b c none is = is ∙ sym (ap (λ (t : Bool). t || b) none)
 
 -- the definitions are over, for good
-unfoldable over : Phase → Bool
+unfoldable pub over : Phase → Bool
 over (Section scaled) = false
 over Scale = false
 over ScaleUnit = false
@@ -118,7 +118,7 @@ over-changing w stamps next is =
     (λ _. cond-elim (λ (p : Phase). over p ≡ true) stamps _ _ (λ _. is) (λ _. refl)) (λ _. refl))
 
 -- no word leads back into the definitions, and no code comes there
-over-past : (phase : Phase) (w : Word) → over phase ≡ true → (over (past phase w) ≡ true) × (codeComes phase ≡ false)
+pub over-past : (phase : Phase) (w : Word) → over phase ≡ true → (over (past phase w) ≡ true) × (codeComes phase ≡ false)
 unfolding past after over
 over-past Changes w is = (
   cond-elim (λ (p : Phase). over p ≡ true) (isEmpty w) _ _ (λ _. refl)
