@@ -2,3 +2,4 @@ pub mod Answers
 pub mod Cases
 pub mod Empty
 pub mod Stamps
+pub mod Made

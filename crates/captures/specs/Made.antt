@@ -3,12 +3,13 @@
 use mathlib.Core.List.{List, [], _∷_, _++_}
 use mathlib.Core.Path.{_≡_}
 use Prim.Native.Char.{code}
-use Prim.Native.Nat.{ℕ, _+_, _/_, _%_}
-use lib.ListN.{replicate}
+use Prim.Native.Nat.{ℕ, _+_, _/_, _%_, _≤_}
+use lib.ListN.{length, replicate}
 use Rattle.controller.specs.declared.sent.Sent.{Sent}
 use Rattle.lines.specs.Digits.{newline, digit, decimal}
 use Rattle.lines.specs.Line.{linesOf}
 use Rattle.lines.specs.Text.{bytesOf}
+use Rattle.lines.specs.Theorems.{AllSayable}
 use Rattle.lines.specs.Writing.{writing}
 use Rattle.captures.specs.Import.{importing}
 
@@ -52,6 +53,22 @@ madePulses before (t ∷ later) = madePulse (before + t .wait) t ++ madePulses (
 unfoldable pub captureOf : ℕ → List Sent → List ℕ
 captureOf first ts = madeHeader ++ madePulses first ts
 
+-- Each of these waits is 2 or more: E is up one microsecond before it falls, and falls anew only after it was up.
+unfoldable pub LaterWaits : List Sent → Type 0
+LaterWaits [] = Unit {0}
+LaterWaits (t ∷ later) = (2 ≤ t .wait) × LaterWaits later
+
+-- A session that a pod can capture: its lines can be said, its first wait is 0, its later waits are 2 or more.
+unfoldable pub Capturable : List Sent → Type 0
+Capturable [] = Unit {0}
+Capturable (t ∷ later) = (t .wait ≡ 0) × LaterWaits later × AllSayable (t ∷ later)
+
+-- A capture made from any such session imports as that session, byte for byte, wherever its stamps begin.
+abbrev pub MadeImports : Type 0
+MadeImports =
+    (first : ℕ) (ts : List Sent) (out : List ℕ) → Capturable ts → length (linesOf ts) ≤ length out
+    → importing (captureOf first ts) out ≡ writing (linesOf ts)
+
 -- A session of every kind, with the shortest wait.
 abbrev pub someSession : List Sent
 someSession =
@@ -61,3 +78,17 @@ someSession =
 -- A capture made from it imports as that session, byte for byte.
 abbrev pub SomeMade : Type 0
 SomeMade = importing (captureOf 7 someSession) (replicate 60 0) ≡ writing (linesOf someSession)
+
+-- The same, its stamps starting again from 0 between the second fall and the third.
+abbrev pub MadeStartsAgain : Type 0
+MadeStartsAgain = importing (captureOf 4294967290 someSession) (replicate 60 0) ≡ writing (linesOf someSession)
+
+-- A session whose second wait is 1.
+abbrev pub closeSession : List Sent
+closeSession = record { kind = 0; byte = 0x38; wait = 0 } ∷ record { kind = 1; byte = 0xA5; wait = 1 } ∷ []
+
+-- There E is up again at the stamp at which it fell, so that fall is no fall at the stamp's end: the first transfer is lost, and
+-- what is imported is not the session.
+pub record CloseIsLost : Type 0 where
+  pub comes-to : importing (captureOf 7 closeSession) (replicate 60 0) ≡ writing (bytesOf "D\tA5\t0\n")
+  pub is-other : importing (captureOf 7 closeSession) (replicate 60 0) ≡ writing (linesOf closeSession) → ⊥
