@@ -53,7 +53,7 @@ madePulses before (t ∷ later) = madePulse (before + t .wait) t ++ madePulses (
 unfoldable pub captureOf : ℕ → List Sent → List ℕ
 captureOf first ts = madeHeader ++ madePulses first ts
 
--- Each of these waits is 2 or more: E is up one microsecond before it falls, and falls anew only after it was up.
+-- Each of these waits is 2 or more, so that E is up again at a later stamp than that of the fall before.
 unfoldable pub LaterWaits : List Sent → Type 0
 LaterWaits [] = Unit {0}
 LaterWaits (t ∷ later) = (2 ≤ t .wait) × LaterWaits later
@@ -79,7 +79,7 @@ someSession =
 abbrev pub SomeMade : Type 0
 SomeMade = importing (captureOf 7 someSession) (replicate 60 0) ≡ writing (linesOf someSession)
 
--- The same, its stamps starting again from 0 between the second fall and the third.
+-- The same, its stamps starting again from 0 between the second fall, at 4,294,967,292, and the third, at 36.
 abbrev pub MadeStartsAgain : Type 0
 MadeStartsAgain = importing (captureOf 4294967290 someSession) (replicate 60 0) ≡ writing (linesOf someSession)
 
@@ -87,8 +87,8 @@ MadeStartsAgain = importing (captureOf 4294967290 someSession) (replicate 60 0) 
 abbrev pub closeSession : List Sent
 closeSession = record { kind = 0; byte = 0x38; wait = 0 } ∷ record { kind = 1; byte = 0xA5; wait = 1 } ∷ []
 
--- There E is up again at the stamp at which it fell, so that fall is no fall at the stamp's end: the first transfer is lost, and
--- what is imported is not the session.
+-- There E is up again at the stamp at which it fell, so at that stamp's end it has not fallen: the first transfer is lost, and
+-- what is imported is not the session. So later waits must be 2 or more.
 pub record CloseIsLost : Type 0 where
   pub comes-to : importing (captureOf 7 closeSession) (replicate 60 0) ≡ writing (bytesOf "D\tA5\t0\n")
   pub is-other : importing (captureOf 7 closeSession) (replicate 60 0) ≡ writing (linesOf closeSession) → ⊥

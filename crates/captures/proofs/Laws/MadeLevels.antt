@@ -1,17 +1,15 @@
 -- Laws of the levels in a made capture: the lines say the kind and the byte that they were made from, and none is open; and the
 -- stamps of two falls say the wait between them.
 -- Assumes nothing.
-use mathlib.Core.Bool.{Bool, true, false, cond, _&&_, _||_}
+use mathlib.Core.Bool.{Bool, true, false, _&&_, _||_}
 use mathlib.Core.List.{List, [], _∷_}
-use mathlib.Core.Path.{_≡_, refl, sym, ap, _∙_}
+use mathlib.Core.Path.{_≡_, refl, sym, _∙_}
 use Prim.Native.Nat.{ℕ, zero, suc, _+_, _*_, _-_, _/_, _%_, _<_, _≤_}
 use native.Mathlib.Omega.{arith}
-use borrow.Author.Tests.{leb-true, ltb-true, ltb-false, lt-ltb, le-leb, ne-eqb, eqb-true}
-use lib.Dec.{ltb, leb, eqb}
-use lib.ListN.{length}
+use borrow.Author.Tests.{ltb-false, le-leb, ne-eqb, eqb-true}
+use lib.Dec.{ltb, eqb}
 use Rattle.controller.proofs.Laws.Choice.{cond-elim}
 use Rattle.controller.specs.Bus.{badTransfer}
-use Rattle.lines.proofs.Laws.Digits.{either}
 use Rattle.lines.proofs.Laws.Kinds.{kind-below}
 use Rattle.captures.specs.Import.{bit, kindOf, four, busByte, byteOf, waitFrom, oneOpen, busOpen, unknownAt}
 
@@ -21,7 +19,7 @@ madeLevels kind byte e =
     kind % 2 ∷ kind / 2 % 2 ∷ e ∷ byte % 2 ∷ byte / 2 % 2 ∷ byte / 4 % 2 ∷ byte / 8 % 2 ∷ byte / 16 % 2 ∷ byte / 32 % 2
     ∷ byte / 64 % 2 ∷ byte / 128 % 2 ∷ []
 
--- a number below 2 counts as itself
+-- a level below 2 counts as itself
 bit-small : (n : ℕ) → n < 2 → bit n ≡ n
 unfolding bit
 bit-small zero small = refl
@@ -81,10 +79,11 @@ and-none false = refl
 shut : (n : ℕ) → eqb (n % 2) 2 ≡ false
 shut n = ne-eqb (n % 2) 2 (λ e. omega arith)
 
+-- so the pulse's lines are all known
 pub known-made : (kind byte : ℕ) → unknownAt (madeLevels kind byte 0) ≡ false
 unfolding unknownAt busOpen oneOpen madeLevels
 known-made kind byte =
-    simp (shut kind, shut (kind / 2), shut byte, shut (byte / 2), shut (byte / 4), shut (byte / 8), shut (byte / 16), shut (byte / 32), shut (byte / 64), shut (byte / 128), and-none)
+    simp (shut, and-none)
 
 or-right : (a b : Bool) → (a || b) ≡ false → b ≡ false
 or-right true b none = let no-way : _≡_ {A = ℕ} 0 1 = cc in absurd (omega arith)

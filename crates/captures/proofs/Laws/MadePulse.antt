@@ -1,8 +1,8 @@
 -- Laws of a made pulse: what its stamps and changes, one after the other, do to the lines as they stand and to the falls of E.
 -- Assumes nothing.
-use mathlib.Core.Bool.{Bool, true, false, cond, not, _&&_, _||_}
+use mathlib.Core.Bool.{Bool, true, false, cond, _&&_}
 use mathlib.Core.List.{List, [], _∷_, _++_, append-assoc}
-use mathlib.Core.Path.{_≡_, refl, sym, ap, _∙_}
+use mathlib.Core.Path.{_≡_, refl, ap, _∙_}
 use Prim.Native.Char.{code}
 use Prim.Native.Nat.{ℕ, zero, suc, _+_, _/_, _%_, _<_, _≤_}
 use native.Mathlib.Omega.{arith}
@@ -11,15 +11,15 @@ use lib.Dec.{eqb, eqb·suc-zero}
 use lib.ListN.{length, getD, replicate}
 use Rattle.controller.specs.declared.sent.Sent.{Sent}
 use Rattle.lines.specs.Digits.{newline, between, digit, decimal}
-use Rattle.lines.proofs.Laws.Digits.{decimal-some}
 use Rattle.captures.specs.declared.form.Phase.the-variants.{Section, Changes}
 use Rattle.captures.specs.declared.scan.Scan.{Scan}
 use Rattle.captures.specs.Words.{Word, words, isPlain, same}
 use Rattle.captures.specs.Form.{stampLimit, stampOf, levelOf, levelSet, changing, after, past}
 use Rattle.captures.specs.Definitions.{declares}
-use Rattle.captures.specs.Falls.{Fall, blankScan, inPhase, changed, endsStamp, stamped, altered, moved, scanned, scannedBy, falls, fallAt, fallsFrom}
+use Rattle.captures.specs.Falls.{Fall, blankScan, inPhase, changed, endsStamp, stamped, altered, moved, scanned, scannedBy}
+use Rattle.captures.specs.Falls.{falls, fallAt, fallsFrom}
 use Rattle.captures.specs.Made.{madeStamp, madeChange, madeLines, madePulse}
-use Rattle.captures.proofs.Laws.MadeText.{words-line, plain-both, plain-decimal, stamp-decimal}
+use Rattle.captures.proofs.Laws.MadeText.{words-line, plain-decimal, stamp-decimal}
 use Rattle.captures.proofs.Laws.MadeLevels.{madeLevels, rise-other, rise-later}
 use Rattle.captures.proofs.Laws.MadeHeader.{madeCodes, DeclaresAll}
 
@@ -34,7 +34,7 @@ pub record Leads (all : List Word) (scan : Scan) (text : List ℕ) (fallen : Lis
   pub fell : fallsFrom all madeCodes scan (words text) ≡ fallen ++ fallsFrom all madeCodes next (words more)
 
 -- one after the other; the first with no fall
-pub on : {all : List Word} {a b c : Scan} {x y z : List ℕ} {fallen : List Fall} → Leads all a x [] b y → Leads all b y fallen c z
+on : {all : List Word} {a b c : Scan} {x y z : List ℕ} {fallen : List Fall} → Leads all a x [] b y → Leads all b y fallen c z
     → Leads all a x fallen c z
 on first second = record { seen = first .seen ∙ second .seen; fell = first .fell ∙ second .fell }
 
@@ -44,7 +44,8 @@ cond-same true x = refl
 cond-same false x = refl
 
 -- a change of a plain code sets the lines that have it, and ends no stamp
-module _ (all : List Word) (letter : ℕ) (plain : between 0x21 0x7E letter ≡ true) (begun : Bool) (stamp before : ℕ) (levels : List ℕ) where
+module _ (all : List Word) (letter : ℕ) (plain : between 0x21 0x7E letter ≡ true) (begun : Bool) (stamp before : ℕ)
+    (levels : List ℕ) where
   change-plain : (b : ℕ) → b < 2 → isPlain (digit b ∷ letter ∷ []) ≡ true
   unfolding isPlain digit
   change-plain zero small = simp plain
@@ -68,7 +69,7 @@ module _ (all : List Word) (letter : ℕ) (plain : between 0x21 0x7E letter ≡ 
   change-falls (suc (suc b)) ws small = absurd (omega arith)
 
   -- of a code that is declared
-  pub turn : (value : ℕ) (more : List ℕ) → declares (Section false) all (letter ∷ []) ≡ true
+  turn : (value : ℕ) (more : List ℕ) → declares (Section false) all (letter ∷ []) ≡ true
       → Leads all (at begun stamp before levels) (madeChange value letter ++ more) []
       (at begun stamp before (changed 11 madeCodes (letter ∷ []) (value % 2) levels)) more
   unfolding madeChange scannedBy
@@ -77,7 +78,8 @@ module _ (all : List Word) (letter : ℕ) (plain : between 0x21 0x7E letter ≡ 
       let small : value % 2 < 2 = omega arith in
       let from = at begun stamp before levels in
       let split = words-line (digit b ∷ letter ∷ []) more (change-plain b small) in
-      let step : scanned all madeCodes from (digit b ∷ letter ∷ []) ≡ at begun stamp before (changed 11 madeCodes (letter ∷ []) b levels) =
+      let next = at begun stamp before (changed 11 madeCodes (letter ∷ []) b levels) in
+      let step : scanned all madeCodes from (digit b ∷ letter ∷ []) ≡ next =
       change-scanned b small ∙ simp declared in
       record {
         seen =
@@ -91,7 +93,7 @@ module _ (all : List Word) (letter : ℕ) (plain : between 0x21 0x7E letter ≡ 
 
 -- the changes of RS, RW and DB0 to DB7 set those ten lines
 module _ (all : List Word) (declared : DeclaresAll all) (begun : Bool) (stamp before : ℕ) where
-  pub lines-turn : (a b c d e f g h i j k : ℕ) (t : Sent) (more : List ℕ)
+  lines-turn : (a b c d e f g h i j k : ℕ) (t : Sent) (more : List ℕ)
       → Leads all (at begun stamp before (a ∷ b ∷ c ∷ d ∷ e ∷ f ∷ g ∷ h ∷ i ∷ j ∷ k ∷ [])) (madeLines t ++ more) []
       (at begun stamp before (madeLevels (t .kind) (t .byte) c)) more
   unfolding madeLines madeChange changed same madeLevels
@@ -108,7 +110,7 @@ module _ (all : List Word) (declared : DeclaresAll all) (begun : Bool) (stamp be
       (turn all (code "k") refl begun stamp before _ (t .byte / 128) _ (declared 10 (omega arith)))))))))))
 
 -- a change of E sets E
-pub e-turn : (all : List Word) (declared : DeclaresAll all) (begun : Bool) (stamp before kind byte e value : ℕ) (more : List ℕ)
+e-turn : (all : List Word) (declared : DeclaresAll all) (begun : Bool) (stamp before kind byte e value : ℕ) (more : List ℕ)
     → Leads all (at begun stamp before (madeLevels kind byte e)) (madeChange value (code "c") ++ more) []
     (at begun stamp before (madeLevels kind byte (value % 2))) more
 unfolding changed same madeLevels
@@ -121,7 +123,8 @@ module _ (all : List Word) (begun : Bool) (stamp before : ℕ) (levels : List �
   unfolding past after changing isPlain same
   hash-past = simp (eqb·suc-zero (length (decimal n)), plain-decimal n, stamp-decimal n fits, le-leb n stampLimit fits, cond-same)
 
-  hash-scanned : scanned all madeCodes (at begun stamp before levels) (code "#" ∷ decimal n) ≡ stamped (at begun stamp before levels) n
+  hash-scanned : scanned all madeCodes (at begun stamp before levels) (code "#" ∷ decimal n)
+      ≡ stamped (at begun stamp before levels) n
   unfolding scanned moved
   hash-scanned = simp (hash-past, stamp-decimal n fits, le-leb n stampLimit fits)
 
@@ -132,9 +135,14 @@ module _ (all : List Word) (begun : Bool) (stamp before : ℕ) (levels : List �
   unfolding fallsFrom
   hash-falls ws = simp (hash-scanned, stamp-decimal n fits, le-leb n stampLimit fits)
 
-pub stamp-leads : (all : List Word) (begun : Bool) (stamp before : ℕ) (levels : List ℕ) (value : ℕ) (more : List ℕ)
+-- E falls at the end of the stamp before, if this stamp ends it
+abbrev fallenBy : Scan → ℕ → List Fall
+fallenBy scan stamp = fallAt (endsStamp scan stamp && falls scan) scan
+
+-- a made stamp, whatever stood before it
+stamp-leads : (all : List Word) (begun : Bool) (stamp before : ℕ) (levels : List ℕ) (value : ℕ) (more : List ℕ)
     → Leads all (at begun stamp before levels) (madeStamp value ++ more)
-    (fallAt (endsStamp (at begun stamp before levels) (value % 4294967296) && falls (at begun stamp before levels)) (at begun stamp before levels))
+    (fallenBy (at begun stamp before levels) (value % 4294967296))
     (stamped (at begun stamp before levels) (value % 4294967296)) more
 unfolding madeStamp scannedBy isPlain
 stamp-leads all begun stamp before levels value more =
@@ -152,15 +160,16 @@ stamp-leads all begun stamp before levels value more =
     }
 
 -- a stamp at which nothing falls, and that ends the one before it
-pub quiet-stamp : (all : List Word) (stamp before : ℕ) (levels : List ℕ) (value : ℕ) (more : List ℕ)
+quiet-stamp : (all : List Word) (stamp before : ℕ) (levels : List ℕ) (value : ℕ) (more : List ℕ)
     → (value % 4294967296 ≡ stamp → ⊥) → eqb before 1 ≡ false
-    → Leads all (at true stamp before levels) (madeStamp value ++ more) [] (at true (value % 4294967296) (getD levels 2 0) levels) more
+    → Leads all (at true stamp before levels) (madeStamp value ++ more) []
+    (at true (value % 4294967296) (getD levels 2 0) levels) more
 unfolding stamped fallAt
 quiet-stamp all stamp before levels value more other low =
     simp (ne-eqb (value % 4294967296) stamp other, low) at (stamp-leads all true stamp before levels value more)
 
 -- the rest of a pulse, from its first stamp on
-pub pulse-rest : (all : List Word) (declared : DeclaresAll all) (before : ℕ) (low : eqb before 1 ≡ false)
+pulse-rest : (all : List Word) (declared : DeclaresAll all) (before : ℕ) (low : eqb before 1 ≡ false)
     (a b c d e f g h i j k : ℕ) (stamp : ℕ) (t : Sent) (more : List ℕ)
     → Leads all (at true ((stamp + 4294967295) % 4294967296) before (a ∷ b ∷ c ∷ d ∷ e ∷ f ∷ g ∷ h ∷ i ∷ j ∷ k ∷ []))
     (madeLines t ++ (madeChange 1 (code "c") ++ (madeStamp stamp ++ (madeChange 0 (code "c") ++ more)))) []
@@ -176,13 +185,10 @@ pulse-rest all declared before low a b c d e f g h i j k stamp t more =
 -- the parts of a pulse and what is behind it
 pulse-parts : (stamp : ℕ) (t : Sent) (more : List ℕ)
     → madePulse stamp t ++ more
-    ≡ madeStamp (stamp + 4294967295) ++ (madeLines t ++ (madeChange 1 (code "c") ++ (madeStamp stamp ++ (madeChange 0 (code "c") ++ more))))
+    ≡ madeStamp (stamp + 4294967295)
+    ++ (madeLines t ++ (madeChange 1 (code "c") ++ (madeStamp stamp ++ (madeChange 0 (code "c") ++ more))))
 unfolding madePulse
 pulse-parts stamp t more = simp append-assoc
-
-from-text : (all : List Word) (scan next : Scan) (fallen : List Fall) (x y more : List ℕ) → x ≡ y → Leads all scan y fallen next more
-    → Leads all scan x fallen next more
-from-text all scan next fallen x y more is leads = rw is leads
 
 -- the first pulse: no stamp has come, so none is ended and nothing falls before it
 pub first-pulse : (all : List Word) (declared : DeclaresAll all) (stamp : ℕ) (t : Sent) (more : List ℕ)
@@ -190,33 +196,35 @@ pub first-pulse : (all : List Word) (declared : DeclaresAll all) (stamp : ℕ) (
     (at true (stamp % 4294967296) 1 (madeLevels (t .kind) (t .byte) 0)) more
 unfolding stamped fallAt
 first-pulse all declared stamp t more =
-    from-text all (inPhase Changes blankScan) (at true (stamp % 4294967296) 1 (madeLevels (t .kind) (t .byte) 0)) [] _ _ more (pulse-parts stamp t more)
+    rw (pulse-parts stamp t more)
     (on (stamp-leads all false 0 2 (replicate 11 2) (stamp + 4294967295) _)
     (pulse-rest all declared 2 refl 2 2 2 2 2 2 2 2 2 2 2 stamp t more))
 
 -- the stamp of a later pulse, which ends that of the fall before
 later-stamp : (all : List Word) (stamp kind byte value : ℕ) (more : List ℕ) → (value % 4294967296 ≡ stamp → ⊥)
     → Leads all (at true stamp 1 (madeLevels kind byte 0)) (madeStamp value ++ more)
-    (record { stamp = stamp; levels = madeLevels kind byte 0 } ∷ []) (at true (value % 4294967296) 0 (madeLevels kind byte 0)) more
+    (record { stamp = stamp; levels = madeLevels kind byte 0 } ∷ [])
+    (at true (value % 4294967296) 0 (madeLevels kind byte 0)) more
 unfolding stamped fallAt madeLevels
 later-stamp all stamp kind byte value more other =
     simp (ne-eqb (value % 4294967296) stamp other) at (stamp-leads all true stamp 1 (madeLevels kind byte 0) value more)
 
--- with a fall first
-pub past-fall : {all : List Word} {a b c : Scan} {x y z : List ℕ} {fallen : List Fall} → Leads all a x fallen b y → Leads all b y [] c z
-    → Leads all a x fallen c z
+-- one after the other; the second with no fall
+past-fall : {all : List Word} {a b c : Scan} {x y z : List ℕ} {fallen : List Fall} → Leads all a x fallen b y
+    → Leads all b y [] c z → Leads all a x fallen c z
 past-fall {fallen = fallen} first second =
     record { seen = first .seen ∙ second .seen; fell = first .fell ∙ ap (λ (l : List Fall). fallen ++ l) (second .fell) }
 
 -- a later pulse: its first stamp ends that of the fall before
-pub later-pulse : (all : List Word) (declared : DeclaresAll all) (before kind byte : ℕ) (t : Sent) (more : List ℕ) → 2 ≤ t .wait → t .wait ≤ 4294967295
+pub later-pulse : (all : List Word) (declared : DeclaresAll all) (before kind byte : ℕ) (t : Sent) (more : List ℕ)
+    → 2 ≤ t .wait → t .wait ≤ 4294967295
     → Leads all (at true (before % 4294967296) 1 (madeLevels kind byte 0)) (madePulse (before + t .wait) t ++ more)
     (record { stamp = before % 4294967296; levels = madeLevels kind byte 0 } ∷ [])
     (at true ((before + t .wait) % 4294967296) 1 (madeLevels (t .kind) (t .byte) 0)) more
 unfolding madeLevels
 later-pulse all declared before kind byte t more enough below =
     let stamp = before + t .wait in
-    from-text all _ _ _ _ _ more (pulse-parts stamp t more)
+    rw (pulse-parts stamp t more)
     (past-fall (later-stamp all (before % 4294967296) kind byte (stamp + 4294967295) _ (rise-later before (t .wait) enough below))
-    (pulse-rest all declared 0 refl (kind % 2) (kind / 2 % 2) 0 (byte % 2) (byte / 2 % 2) (byte / 4 % 2) (byte / 8 % 2) (byte / 16 % 2)
-    (byte / 32 % 2) (byte / 64 % 2) (byte / 128 % 2) stamp t more))
+    (pulse-rest all declared 0 refl (kind % 2) (kind / 2 % 2) 0 (byte % 2) (byte / 2 % 2) (byte / 4 % 2) (byte / 8 % 2)
+    (byte / 16 % 2) (byte / 32 % 2) (byte / 64 % 2) (byte / 128 % 2) stamp t more))

@@ -1,9 +1,9 @@
 -- A capture made from a session imports as that session; with a wait of 1 it does not.
 -- Assumes nothing.
-use mathlib.Core.Bool.{Bool, true, false}
+use mathlib.Core.Bool.{true, false}
 use mathlib.Core.List.{List, [], _∷_, _++_}
-use mathlib.Core.Path.{_≡_, refl, sym, ap, _∙_}
-use Prim.Native.Nat.{ℕ, _+_, _%_, _≤_}
+use mathlib.Core.Path.{_≡_, refl, ap, _∙_}
+use Prim.Native.Nat.{ℕ, _+_, _%_, _<_, _≤_}
 use native.Mathlib.Omega.{arith}
 use borrow.Author.Tests.{le-ltb}
 use lib.ListN.{length, replicate}
@@ -17,13 +17,15 @@ use Rattle.lines.proofs.Laws.Kinds.{kind-below}
 use Rattle.captures.specs.declared.form.Phase.the-variants.{Changes}
 use Rattle.captures.specs.declared.scan.Scan.{Scan}
 use Rattle.captures.specs.Words.{Word, words}
-use Rattle.captures.specs.Form.{isWhole}
 use Rattle.captures.specs.Definitions.{lacksCode}
 use Rattle.captures.specs.Falls.{Fall, blankScan, inPhase, fallAt, scannedBy, fallsFrom}
-use Rattle.captures.specs.Import.{headOf, scanOf, fallsOf, sentAt, sentFrom, sentBy, unknownIn, inSubset, isMissing, sessionText, judged, importing}
-use Rattle.captures.specs.Made.{madeHeader, madePulses, captureOf, LaterWaits, Capturable, MadeImports, someSession, MadeStartsAgain}
+use Rattle.captures.specs.Import.{headOf, scanOf, fallsOf, sentAt, sentFrom, sentBy, unknownIn}
+use Rattle.captures.specs.Import.{inSubset, isMissing, sessionText, judged, importing}
+use Rattle.captures.specs.Made.{madeHeader, madePulses, captureOf, LaterWaits, Capturable}
+use Rattle.captures.specs.Made.{MadeImports, someSession, MadeStartsAgain}
 use Rattle.captures.proofs.Laws.MadeLevels.{madeLevels, kind-made, byte-made, known-made, wait-made}
-use Rattle.captures.proofs.Laws.MadeHeader.{madeCodes, DeclaresAll, header-scanned, header-falls, header-declares, codes-made, once-made}
+use Rattle.captures.proofs.Laws.MadeHeader.{madeCodes, DeclaresAll, header-scanned, header-falls, header-declares}
+use Rattle.captures.proofs.Laws.MadeHeader.{codes-made, once-made}
 use Rattle.captures.proofs.Laws.MadePulse.{at, first-pulse, later-pulse}
 
 -- the fall of a transfer's pulse
@@ -50,19 +52,22 @@ module _ (all : List Word) (declared : DeclaresAll all) where
   unfolding madePulses madeFalls LaterWaits AllSayable words fallsFrom fallAt madeLevels
   falls-made stamp t [] waits can = refl
   falls-made stamp t (u ∷ later) waits can =
-      later-pulse all declared stamp (t .kind) (t .byte) u (madePulses (stamp + u .wait) later) (waits .0) (can .0 .is-wait) .fell
-      ∙ ap (λ (l : List Fall). madeFall stamp t ∷ l) (falls-made (stamp + u .wait) u later (waits .1) (can .1))
+      let next = stamp + u .wait in
+      later-pulse all declared stamp (t .kind) (t .byte) u (madePulses next later) (waits .0) (can .0 .is-wait) .fell
+      ∙ ap (λ (l : List Fall). madeFall stamp t ∷ l) (falls-made next u later (waits .1) (can .1))
 
   ends-made : (stamp : ℕ) (t : Sent) (later : List Sent) → LaterWaits later → AllSayable later
       → Ends (scannedBy all madeCodes (behind stamp t) (words (madePulses stamp later)))
   unfolding madePulses LaterWaits AllSayable words scannedBy
   ends-made stamp t [] waits can = (refl, refl)
   ends-made stamp t (u ∷ later) waits can =
-      rw (later-pulse all declared stamp (t .kind) (t .byte) u (madePulses (stamp + u .wait) later) (waits .0) (can .0 .is-wait) .seen)
-      (ends-made (stamp + u .wait) u later (waits .1) (can .1))
+      let next = stamp + u .wait in
+      rw (later-pulse all declared stamp (t .kind) (t .byte) u (madePulses next later) (waits .0) (can .0 .is-wait) .seen)
+      (ends-made next u later (waits .1) (can .1))
 
 -- the transfer at a fall is the one that it was made from
-sent-at : (before : ℕ) (t : Sent) → Sayable (t .kind) (t .byte) (t .wait) → sentAt (before % 4294967296) (madeFall (before + t .wait) t) ≡ t
+sent-at : (before : ℕ) (t : Sent) → Sayable (t .kind) (t .byte) (t .wait)
+    → sentAt (before % 4294967296) (madeFall (before + t .wait) t) ≡ t
 sent-at before t can =
     simp (
       kind-made (t .kind) (t .byte) (kind-below (t .kind) (t .byte) (can .transfer)),
@@ -70,13 +75,15 @@ sent-at before t can =
       wait-made before (t .wait) (can .is-wait),
     )
 
+-- and so are the transfers at all of these falls
 sent-made : (before : ℕ) (t : Sent) (later : List Sent) → AllSayable (t ∷ later)
     → sentFrom (before % 4294967296) (madeFalls (before + t .wait) t later) ≡ t ∷ later
 unfolding sentFrom madeFalls AllSayable
 sent-made before t [] can = ap (λ (s : Sent). s ∷ []) (sent-at before t (can .0))
 sent-made before t (u ∷ later) can =
-    ap (λ (s : Sent). s ∷ sentFrom ((before + t .wait) % 4294967296) (madeFalls (before + t .wait + u .wait) u later)) (sent-at before t (can .0))
-    ∙ ap (λ (l : List Sent). t ∷ l) (sent-made (before + t .wait) u later (can .1))
+    let stamp = before + t .wait in
+    ap (λ (s : Sent). s ∷ sentFrom (stamp % 4294967296) (madeFalls (stamp + u .wait) u later)) (sent-at before t (can .0))
+    ∙ ap (λ (l : List Sent). t ∷ l) (sent-made stamp u later (can .1))
 
 -- the first transfer, whose wait is 0, counts from its own stamp
 sent-all : (first : ℕ) (t : Sent) (later : List Sent) → t .wait ≡ 0 → AllSayable (t ∷ later)
@@ -96,7 +103,8 @@ known-falls stamp t [] = simp (known-made (t .kind) (t .byte))
 known-falls stamp t (u ∷ later) = simp (known-made (t .kind) (t .byte), known-falls (stamp + u .wait) u later)
 
 -- a capture that none of the refusals meets imports as the session at its falls
-imports-as : (capture out : List ℕ) (ts : List Sent) → Ends (scanOf capture) → headOf capture .twice ≡ false → lacksCode 11 (headOf capture .codes) ≡ false
+imports-as : (capture out : List ℕ) (ts : List Sent) → Ends (scanOf capture) → headOf capture .twice ≡ false
+    → lacksCode 11 (headOf capture .codes) ≡ false
     → unknownIn (fallsOf capture) ≡ false → sentBy (fallsOf capture) ≡ ts → length (linesOf ts) ≤ length out
     → importing capture out ≡ writing (linesOf ts)
 unfolding importing judged wanting inSubset isMissing sessionText
@@ -142,6 +150,10 @@ made-imports first (t ∷ later) out can room =
     (sent-all first t later (can .0) (can .2))
     room
 
+said : (kind byte wait : ℕ) → badTransfer kind byte ≡ false → byte < 256 → wait ≤ 4294967295 → Sayable kind byte wait
+said kind byte wait good is-byte is-wait = record { transfer = good; is-byte = is-byte; is-wait = is-wait }
+
+-- of that session, wherever its stamps start again: its text's length computes, its large stamps need not
 pub made-starts-again : MadeStartsAgain
 unfolding Capturable LaterWaits AllSayable badTransfer linesOf line kindField letterOf byteField numberField decimal spelled digit
 made-starts-again =
@@ -149,13 +161,10 @@ made-starts-again =
       refl,
       (omega arith, (omega arith, (omega arith, tt))),
       (
-        record { transfer = refl; is-byte = omega arith; is-wait = omega arith },
+        said 0 0x38 0 refl (omega arith) (omega arith),
         (
-          record { transfer = refl; is-byte = omega arith; is-wait = omega arith },
-          (
-            record { transfer = refl; is-byte = omega arith; is-wait = omega arith },
-            (record { transfer = refl; is-byte = omega arith; is-wait = omega arith }, tt),
-          ),
+          said 1 0xA5 2 refl (omega arith) (omega arith),
+          (said 2 0 40 refl (omega arith) (omega arith), (said 3 0 3 refl (omega arith) (omega arith), tt)),
         ),
       ),
     )
