@@ -43,7 +43,7 @@ cond-same : {A : Type 0} (test : Bool) (x : A) → cond test x x ≡ x
 cond-same true x = refl
 cond-same false x = refl
 
--- a change of a plain code sets the lines that have it, and ends no stamp
+-- a change of a plain code sets the lines that have it, and ends no stamp: by cases, since its level is `0` or `1`
 module _ (all : List Word) (letter : ℕ) (plain : between 0x21 0x7E letter ≡ true) (begun : Bool) (stamp before : ℕ)
     (levels : List ℕ) where
   change-plain : (b : ℕ) → b < 2 → isPlain (digit b ∷ letter ∷ []) ≡ true
@@ -68,7 +68,7 @@ module _ (all : List Word) (letter : ℕ) (plain : between 0x21 0x7E letter ≡ 
   change-falls (suc zero) ws small = refl
   change-falls (suc (suc b)) ws small = absurd (omega arith)
 
-  -- of a code that is declared
+  -- so, where the code is declared, nothing strange is met
   turn : (value : ℕ) (more : List ℕ) → declares (Section false) all (letter ∷ []) ≡ true
       → Leads all (at begun stamp before levels) (madeChange value letter ++ more) []
       (at begun stamp before (changed 11 madeCodes (letter ∷ []) (value % 2) levels)) more
@@ -117,7 +117,7 @@ unfolding changed same madeLevels
 e-turn all declared begun stamp before kind byte e value more =
     turn all (code "c") refl begun stamp before (madeLevels kind byte e) value more (declared 2 (omega arith))
 
--- a stamp: E as it stood is kept, and counts as fallen, where the stamp ends the one before it
+-- a stamp within 32 bits: the word is plain and says its number, so it is taken as that stamp
 module _ (all : List Word) (begun : Bool) (stamp before : ℕ) (levels : List ℕ) (n : ℕ) (fits : n ≤ stampLimit) where
   hash-past : past Changes (code "#" ∷ decimal n) ≡ Changes
   unfolding past after changing isPlain same
@@ -135,7 +135,7 @@ module _ (all : List Word) (begun : Bool) (stamp before : ℕ) (levels : List �
   unfolding fallsFrom
   hash-falls ws = simp (hash-scanned, stamp-decimal n fits, le-leb n stampLimit fits)
 
--- E falls at the end of the stamp before, if this stamp ends it
+-- the fall that counts when this stamp comes: it ends the one before it, and E has fallen there
 abbrev fallenBy : Scan → ℕ → List Fall
 fallenBy scan stamp = fallAt (endsStamp scan stamp && falls scan) scan
 
@@ -159,7 +159,7 @@ stamp-leads all begun stamp before levels value more =
       fell = ap (fallsFrom all madeCodes from) split ∙ hash-falls all begun stamp before levels n fits (words more);
     }
 
--- a stamp at which nothing falls, and that ends the one before it
+-- a stamp that ends the one before it, where E had not been at 1 before that one: nothing has fallen
 quiet-stamp : (all : List Word) (stamp before : ℕ) (levels : List ℕ) (value : ℕ) (more : List ℕ)
     → (value % 4294967296 ≡ stamp → ⊥) → eqb before 1 ≡ false
     → Leads all (at true stamp before levels) (madeStamp value ++ more) []
@@ -168,7 +168,8 @@ unfolding stamped fallAt
 quiet-stamp all stamp before levels value more other low =
     simp (ne-eqb (value % 4294967296) stamp other, low) at (stamp-leads all true stamp before levels value more)
 
--- the rest of a pulse, from its first stamp on
+-- the rest of a pulse, behind its first stamp: E was not at 1 before that one, so it falls at the second stamp alone, and that
+-- stamp is not ended yet
 pulse-rest : (all : List Word) (declared : DeclaresAll all) (before : ℕ) (low : eqb before 1 ≡ false)
     (a b c d e f g h i j k : ℕ) (stamp : ℕ) (t : Sent) (more : List ℕ)
     → Leads all (at true ((stamp + 4294967295) % 4294967296) before (a ∷ b ∷ c ∷ d ∷ e ∷ f ∷ g ∷ h ∷ i ∷ j ∷ k ∷ []))
@@ -215,7 +216,7 @@ past-fall : {all : List Word} {a b c : Scan} {x y z : List ℕ} {fallen : List F
 past-fall {fallen = fallen} first second =
     record { seen = first .seen ∙ second .seen; fell = first .fell ∙ ap (λ (l : List Fall). fallen ++ l) (second .fell) }
 
--- a later pulse: its first stamp ends that of the fall before
+-- a later pulse: its first stamp is not that of the fall before, since the wait is 2 or more, so it ends it and the fall counts
 pub later-pulse : (all : List Word) (declared : DeclaresAll all) (before kind byte : ℕ) (t : Sent) (more : List ℕ)
     → 2 ≤ t .wait → t .wait ≤ 4294967295
     → Leads all (at true (before % 4294967296) 1 (madeLevels kind byte 0)) (madePulse (before + t .wait) t ++ more)

@@ -134,6 +134,7 @@ made-as rest out ts fallen ends is known sent room =
     (ap sentBy fell ∙ sent)
     room
 
+-- the definitions, the first pulse, the later ones; each fall's transfer is the session's
 pub made-imports : MadeImports
 unfolding captureOf madePulses Capturable AllSayable words scannedBy fallsFrom fallAt unknownIn sentBy
 made-imports first [] out can room = made-as [] out [] [] (refl, refl) refl refl refl room
@@ -150,10 +151,11 @@ made-imports first (t ∷ later) out can room =
     (sent-all first t later (can .0) (can .2))
     room
 
+-- a transfer that can be said, from its three facts
 said : (kind byte wait : ℕ) → badTransfer kind byte ≡ false → byte < 256 → wait ≤ 4294967295 → Sayable kind byte wait
 said kind byte wait good is-byte is-wait = record { transfer = good; is-byte = is-byte; is-wait = is-wait }
 
--- of that session, wherever its stamps start again: its text's length computes, its large stamps need not
+-- one case of it: the stamps, too large to compute, need not be
 pub made-starts-again : MadeStartsAgain
 unfolding Capturable LaterWaits AllSayable badTransfer linesOf line kindField letterOf byteField numberField decimal spelled digit
 made-starts-again =
