@@ -1,6 +1,7 @@
 pub mod RecordBytes
 pub mod ControllerCalls
 pub mod Filling
+pub mod CaptureCalls
 pub mod LineCalls
 pub mod PictureCalls
 pub mod WishBytes

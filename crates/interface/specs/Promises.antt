@@ -2,6 +2,7 @@
 -- Assumes nothing.
 use mathlib.Core.List.{List}
 use Prim.Native.Nat.{ℕ}
+use Rattle.interface.specs.CaptureCalls.{importCall}
 use Rattle.interface.specs.ControllerCalls.{Leaves, resetCall, transferCall}
 use Rattle.interface.specs.Filling.{Fills}
 use Rattle.interface.specs.LineCalls.{readCall, writeCall}
@@ -33,3 +34,7 @@ YaropeskWriteLinePromise kind byte wait out returned after = Fills (writeCall ki
 -- `yaropesk_read_line`: the number returned and every byte of the buffer.
 abbrev pub YaropeskReadLinePromise : List ℕ → List ℕ → ℕ → List ℕ → Type 0
 YaropeskReadLinePromise text out returned after = Fills (readCall text out) returned after
+
+-- `yaropesk_import`: the number returned and every byte of the buffer.
+abbrev pub YaropeskImportPromise : List ℕ → List ℕ → ℕ → List ℕ → Type 0
+YaropeskImportPromise capture out returned after = Fills (importCall capture out) returned after

@@ -13,6 +13,7 @@ use Rattle.controller.specs.Answers.{isRefusal, numberOf, Row, Tells}
 use Rattle.controller.specs.Record.{sound}
 use Rattle.controller.specs.Rows.{Breaks, resetRows, transferRows}
 use Rattle.controller.specs.Theorems.{left}
+use Rattle.captures.specs.Theorems.{importRows}
 use Rattle.dots.specs.Theorems.{pictureRows}
 use Rattle.lines.specs.Theorems.{Starts, writerRows}
 use Rattle.planner.specs.declared.wish.Wish.{Wish}
@@ -20,6 +21,7 @@ use Rattle.planner.specs.Theorems.{NotWished, planRows}
 use Rattle.interface.specs.declared.record_bytes.ReadRecord.{ReadRecord}
 use Rattle.interface.specs.declared.record_bytes.ReadRecord.the-variants.{Is, Broken}
 use Rattle.interface.specs.declared.wish_bytes.ReadWish.the-variants as ReadWish
+use Rattle.interface.specs.CaptureCalls.{importCall}
 use Rattle.interface.specs.ControllerCalls.{Call, refusal, resetCall, transferCall}
 use Rattle.interface.specs.Filling.{Filling, declined}
 use Rattle.interface.specs.LineCalls.{readCall, writeCall}
@@ -79,6 +81,7 @@ pub record CallRefusals : Type 0 where
   pub plan : (wish marks values out : List ℕ) → KeepsBuffer (planCall wish marks values out) out
   pub write-line : (kind byte wait : ℕ) (out : List ℕ) → KeepsBuffer (writeCall kind byte wait out) out
   pub read-line : (text out : List ℕ) → KeepsBuffer (readCall text out) out
+  pub import : (capture out : List ℕ) → KeepsBuffer (importCall capture out) out
 
 -- These are the 24 bytes of this record, which is sound.
 pub record AreOf (bytes : List ℕ) (rec : Record) : Type 0 where
@@ -116,3 +119,4 @@ pub record CallAnswers : Type 0 where
   pub write-line : (kind byte wait : ℕ) (out : List ℕ)
       → Tells (answerIn (writeCall kind byte wait out .returned)) (writerRows kind byte out)
   pub read-line : (text out : List ℕ) → Tells (answerIn (readCall text out .returned)) (readRows text out)
+  pub import : (capture out : List ℕ) → Tells (answerIn (importCall capture out .returned)) (importRows capture out)

@@ -1,6 +1,6 @@
 // What the calls return: the answer's number, and 256 times a byte, a count or a length.
 ghost use mathlib.Core.Path.{_≡_};
-ghost use Prim.Native.Nat.{_+_, _*_, _≤_};
+ghost use Prim.Native.Nat.{_+_, _*_, _%_, _≤_};
 ghost use Rattle.controller.specs.Answers.{numberOf};
 use controller::Answer;
 use controller::number;
@@ -23,4 +23,12 @@ pub fn counted(answer: Answer, count: usize) -> u32
     ensures { λ r. ⌜ r ≡ numberOf answer + 256 * count ⌝ }
 {
     number(answer) as u32 + 256 * count as u32
+}
+
+// The same in 64 bits, where a length below 2^56 has room.
+pub fn counted_far(answer: Answer, count: usize) -> u64
+    ensures { λ r. ⌜ r ≡ numberOf answer + 256 * (count % 72057594037927936) ⌝ }
+{
+    let low = count as u64 % 72_057_594_037_927_936;
+    number(answer) as u64 + 256 * low
 }

@@ -4,3 +4,4 @@ pub mod Steps
 pub mod Lengths
 pub mod Waits
 pub mod Kinds
+pub mod Nothing

@@ -3,9 +3,7 @@
 use mathlib.Core.List.{List, []}
 use mathlib.Core.Path.{_≡_, refl, ap, _∙_}
 use Prim.Native.Nat.{ℕ}
-use lib.Dec.{ltb}
 use lib.ListN.{length}
-use Rattle.controller.proofs.Laws.Choice.{cond-elim}
 use Rattle.controller.proofs.Theorems.Answers.{transfer-answers, loan-answers, reset-answers}
 use Rattle.controller.proofs.Theorems.Halves.{halves-make-whole}
 use Rattle.controller.proofs.Theorems.Clear.{clear-runs-right}
@@ -14,23 +12,22 @@ use Rattle.controller.proofs.Theorems.Rules.{data-rules, instruction-rules}
 use Rattle.controller.proofs.Theorems.Rules.{address-set-goes, clear-leaves-rest, function-moves-nothing, read-never-shifts, status-alters-nothing}
 use Rattle.controller.proofs.Theorems.Refusals.{transfer-refusals, loan-refusals, reset-refusals}
 use Rattle.controller.proofs.Theorems.Sound.{transfer-keeps-sound, reset-makes-sound, effects-fit}
-use Rattle.controller.specs.Bus.{badTransfer}
-use Rattle.controller.specs.Answers.{numberOf, isDone}
+use Rattle.controller.specs.Answers.{numberOf}
 use Rattle.drawing.proofs.Theorems.{draw-answers, draw-refusals}
 use Rattle.dots.proofs.Table.{table-rows, table-shapes, table-shows}
 use Rattle.dots.proofs.Theorems.{cursor-shows, each-byte, eight-rows, f-alters-nothing, five-dots, later-stay, line-shows, off-dark}
 use Rattle.dots.proofs.Theorems.{pattern-shows, picture-answers, picture-refusals, position-dots, second-line-dark}
 use Rattle.interface.proofs.Theorems.Answers.{call-answers}
 use Rattle.interface.proofs.Theorems.Refusals.{call-refusals}
+use Rattle.lines.proofs.Laws.Nothing.{WritesNothing, wanting-nothing, writer-nothing}
 use Rattle.lines.proofs.Theorems.One.{one-reading, writer-answers, text-answers}
 use Rattle.lines.proofs.Theorems.Read.{reader-answers, read-writes-back}
 use Rattle.lines.proofs.Theorems.Written.{buffer-reads-back, written-reads-back}
-use Rattle.lines.specs.Writing.{Writing, onto, wanting, lineWriting}
+use Rattle.lines.specs.Writing.{Writing, onto}
 use Rattle.lines.specs.declared.writer.Written.{Written}
 use Rattle.planner.proofs.Theorems.Plan.{planned-runs}
 use Rattle.planner.proofs.Theorems.Wish.{not-wishes, plan-answers, plan-refusals}
-use Rattle.captures.proofs.Theorems.Answers.{import-answers}
-use Rattle.captures.specs.Import.{judgementOf, sessionText, importing}
+use Rattle.captures.proofs.Theorems.Answers.{import-answers, import-nothing}
 use Rattle.player.proofs.Theorems.Ends.{bad-line-ends, through-answers}
 use Rattle.player.proofs.Theorems.One.{play-answers}
 use Rattle.player.specs.Report.{report, reportSize, playing}
@@ -56,32 +53,14 @@ each-answer =
       c-calls = call-answers;
     }
 
--- a call that writes no text where its number is not 0
-abbrev WritesNothing : Writing → Type 0
-WritesNothing w = (numberOf (w .answer) ≡ 0 → ⊥) → w .text ≡ []
-
 leaves : (w : Writing) (out : List ℕ) → WritesNothing w → LeavesBuffer w out
 leaves w out none returned after meets refused =
     let empty : w .text ≡ [] = none (λ e. refused (ap (λ (r : Written). numberOf (r .answer)) (meets .told) ∙ e)) in
     (ap (λ (r : Written). r .length) (meets .told) ∙ ap length empty, meets .buffer ∙ ap (λ (t : List ℕ). onto t out) empty)
 
-wanting-nothing : (size : ℕ) (text out : List ℕ) → WritesNothing (wanting size text out)
-unfolding wanting
-wanting-nothing size text out = cond-elim WritesNothing (ltb (length out) size) _ _ (λ _ _. refl) (λ _ other. absurd (other refl))
-
-writer-nothing : (kind byte wait : ℕ) (out : List ℕ) → WritesNothing (lineWriting kind byte wait out)
-unfolding lineWriting
-writer-nothing kind byte wait out =
-    cond-elim WritesNothing (badTransfer kind byte) _ _ (λ _ _. refl) (λ _. wanting-nothing 16 _ out)
-
 play-nothing : (text out : List ℕ) → WritesNothing (playing text out)
 unfolding playing
 play-nothing text out = wanting-nothing (reportSize text) (report text) out
-
-import-nothing : (capture out : List ℕ) → WritesNothing (importing capture out)
-unfolding importing
-import-nothing capture out =
-    cond-elim WritesNothing (isDone (judgementOf capture)) _ _ (λ _. wanting-nothing (length (sessionText capture)) (sessionText capture) out) (λ _ _. refl)
 
 pub demand-1 : Demand1
 demand-1 =

@@ -81,4 +81,5 @@ each-determined =
       yaropesk-plan = λ wish marks values out. two _ _ _ (record { told = refl; buffer = refl }) (λ a l is. (is .told, is .buffer));
       yaropesk-write-line = λ kind byte wait out. two _ _ _ (record { told = refl; buffer = refl }) (λ a l is. (is .told, is .buffer));
       yaropesk-read-line = λ text out. two _ _ _ (record { told = refl; buffer = refl }) (λ a l is. (is .told, is .buffer));
+      yaropesk-import = λ capture out. two _ _ _ (record { told = refl; buffer = refl }) (λ a l is. (is .told, is .buffer));
     }

@@ -28,7 +28,7 @@ use Rattle.controller.specs.Promises.{LineLengthPromise, ShortTimePromise, Long
 use Rattle.drawing.specs.Promises.{DrawPromise}
 use Rattle.dots.specs.Promises.{PicturePromise, RowsOfPromise, IsShownPromise}
 use Rattle.interface.specs.Promises.{YaropeskResetPromise, YaropeskTransferPromise, YaropeskPicturePromise, YaropeskPlanPromise}
-use Rattle.interface.specs.Promises.{YaropeskWriteLinePromise, YaropeskReadLinePromise}
+use Rattle.interface.specs.Promises.{YaropeskWriteLinePromise, YaropeskReadLinePromise, YaropeskImportPromise}
 use Rattle.lines.specs.Promises.{ReadLinePromise, WriteLinePromise, WriteRowPromise, WriteHeaderPromise, HexDigitPromise}
 use Rattle.lines.specs.Promises.{WorthOfPromise, PutTextPromise, PutBytePromise, PutNumberPromise, PutHexPromise}
 use Rattle.lines.specs.Promises.{PutAnswerPromise, FirstPromise}
@@ -99,3 +99,4 @@ pub record EachDetermined : Type 0 where
   pub yaropesk-write-line : (kind byte wait : ℕ) (out : List ℕ)
       → ExactlyOne (λ (x : ℕ × List ℕ). YaropeskWriteLinePromise kind byte wait out (x .0) (x .1))
   pub yaropesk-read-line : (text out : List ℕ) → ExactlyOne (λ (x : ℕ × List ℕ). YaropeskReadLinePromise text out (x .0) (x .1))
+  pub yaropesk-import : (capture out : List ℕ) → ExactlyOne (λ (x : ℕ × List ℕ). YaropeskImportPromise capture out (x .0) (x .1))

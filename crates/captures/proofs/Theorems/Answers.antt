@@ -9,10 +9,12 @@ use lib.Dec.{ltb}
 use lib.ListN.{length}
 use Rattle.controller.proofs.Laws.Answers.{none-applies, row-applies, tells-as}
 use Rattle.controller.proofs.Laws.Tests.{Tests, Fails, tests-itself, tests-fails, tests-lt}
-use Rattle.controller.specs.Answers.{numberOf}
+use Rattle.controller.proofs.Laws.Choice.{cond-elim}
+use Rattle.controller.specs.Answers.{isDone, numberOf}
 use Rattle.lines.specs.Writing.{wanting}
+use Rattle.lines.proofs.Laws.Nothing.{WritesNothing, wanting-nothing}
 use Rattle.lines.proofs.Theorems.One.{one-writing}
-use Rattle.captures.specs.Import.{fallsOf, inSubset, isMissing, unknownIn, sessionText, judged, importing}
+use Rattle.captures.specs.Import.{fallsOf, inSubset, isMissing, unknownIn, sessionText, judged, judgementOf, importing}
 use Rattle.captures.specs.Theorems.{importRows, ImportAnswers, OneImport}
 
 -- a test fails where it is false
@@ -40,6 +42,13 @@ import-answers capture out =
     (λ _. row-applies _ _ _ _ (tests-itself (isMissing capture))
     (λ _. row-applies _ _ _ _ (tests-itself (unknownIn (fallsOf capture)))
     (λ _. row-applies _ _ _ _ (tests-lt (length out) (length (sessionText capture))) (λ _. none-applies)))))
+
+-- a refusal writes nothing
+pub import-nothing : (capture out : List ℕ) → WritesNothing (importing capture out)
+unfolding importing
+import-nothing capture out =
+    cond-elim WritesNothing (isDone (judgementOf capture)) _ _
+    (λ _. wanting-nothing (length (sessionText capture)) (sessionText capture) out) (λ _ _. refl)
 
 pub one-import : OneImport
 one-import capture out a b x y is also = one-writing (importing capture out) out a b x y is also

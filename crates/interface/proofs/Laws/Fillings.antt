@@ -3,7 +3,7 @@
 use mathlib.Core.List.{List}
 use mathlib.Core.Logic.{⊎-elim}
 use mathlib.Core.Path.{_≡_, ap, subst, _∙_}
-use Prim.Native.Nat.{ℕ, _+_, _*_, _≤_}
+use Prim.Native.Nat.{ℕ, _+_, _*_, _%_, _≤_}
 use native.Mathlib.Omega.{arith}
 use lib.Dec.{ltb}
 use lib.ListN.{length}
@@ -19,6 +19,7 @@ use Rattle.lines.specs.declared.reader.Line.{Line}
 use Rattle.lines.specs.Reading.{lineOf}
 use Rattle.lines.proofs.Theorems.Read.{reader-answers, read-is-sayable}
 use Rattle.lines.proofs.Theorems.Written.{lines-fit}
+use Rattle.interface.specs.CaptureCalls.{farFillingOf}
 use Rattle.interface.specs.Filling.{Fills}
 use Rattle.interface.specs.LineCalls.{fillingOf, readCall, stored}
 
@@ -27,6 +28,14 @@ pub written-fills : (w : Writing) (out : List ℕ) (told : Written) {returned : 
     → Writing'.Writes w out told after → returned ≡ numberOf (told .answer) + 256 * told .length → Fills (fillingOf w out) returned after
 written-fills w out told met is =
     record { told = is ∙ ap (λ (t : Written). numberOf (t .answer) + 256 * t .length) (met .told); buffer = met .buffer }
+
+-- one that may be long
+pub far-written-fills : (w : Writing) (out : List ℕ) (told : Written) {returned : ℕ} {after : List ℕ}
+    → Writing'.Writes w out told after → returned ≡ numberOf (told .answer) + 256 * (told .length % 72057594037927936)
+    → Fills (farFillingOf w out) returned after
+far-written-fills w out told met is =
+    let same = ap (λ (t : Written). numberOf (t .answer) + 256 * (t .length % 72057594037927936)) (met .told) in
+    record { told = is ∙ same; buffer = met .buffer }
 
 -- what a call for a line writes is at most 16 bytes
 pub line-short : (kind byte wait : ℕ) (out : List ℕ) → wait ≤ waitLimit → length (lineWriting kind byte wait out .text) ≤ 16

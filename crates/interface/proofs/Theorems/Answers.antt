@@ -5,7 +5,7 @@ use mathlib.Core.Bool.{Bool, true, false, cond, not, _&&_, true≢false, false�
 use mathlib.Core.List.{List, [], _∷_}
 use mathlib.Core.Logic.{inl, ⊎-elim}
 use mathlib.Core.Path.{_≡_, refl, sym, ap, subst, _∙_}
-use Prim.Native.Nat.{ℕ, _+_, _*_}
+use Prim.Native.Nat.{ℕ, _+_, _*_, _%_}
 use native.Mathlib.Omega.{arith}
 use lib.Dec.{eqb, ltb}
 use lib.ListN.{length}
@@ -22,6 +22,9 @@ use Rattle.controller.proofs.Laws.Choice.{cond-map}
 use Rattle.controller.proofs.Laws.Rows.{sound-tests, whole-tests}
 use Rattle.controller.proofs.Laws.Tests.{Tests, fails-eq, tests-as, tests-fails, tests-lt}
 use Rattle.controller.proofs.Theorems.Answers.{transfer-answers}
+use Rattle.captures.specs.Import.{importing}
+use Rattle.captures.specs.Theorems.{importRows}
+use Rattle.captures.proofs.Theorems.Answers.{import-answers}
 use Rattle.dots.specs.declared.geometry.Size.{Size}
 use Rattle.dots.specs.Picture.{answered}
 use Rattle.dots.specs.Theorems.{pictureRows, rowsFor}
@@ -42,6 +45,7 @@ use Rattle.interface.specs.declared.record_bytes.ReadRecord.{ReadRecord}
 use Rattle.interface.specs.declared.record_bytes.ReadRecord.the-variants.{Is, Broken}
 use Rattle.interface.specs.declared.wish_bytes.ReadWish.{ReadWish}
 use Rattle.interface.specs.declared.wish_bytes.ReadWish.the-variants as ReadWish
+use Rattle.interface.specs.CaptureCalls.{importCall}
 use Rattle.interface.specs.ControllerCalls.{Call, resetCall, transferCall, transferFrom}
 use Rattle.interface.specs.Filling.{Filling}
 use Rattle.interface.specs.LineCalls.{stored, writeCall}
@@ -201,6 +205,11 @@ read-tells text out =
     (row-applies _ _ true 0 (record { yes = λ _. bad .0; no = λ e _. true≢false e }) (λ never. absurd (never (bad .0)))))
     (reader-answers text)
 
+import-tells : (capture out : List ℕ) → Tells (answerIn (importCall capture out .returned)) (importRows capture out)
+import-tells capture out =
+    let w = importing capture out in
+    tells (w .answer) (length (w .text) % 72057594037927936) _ _ refl (import-answers capture out)
+
 pub call-answers : CallAnswers
 call-answers =
     record {
@@ -210,4 +219,5 @@ call-answers =
       plan = λ wish marks values out. plan-tells wish marks values out (wishIn wish) refl;
       write-line = write-tells;
       read-line = read-tells;
+      import = import-tells;
     }

@@ -2,9 +2,9 @@
 -- each call what its own refusals are.
 -- Assumes nothing.
 use mathlib.Core.Bool.{Bool, true, false, cond, not, _||_, false≢true}
-use mathlib.Core.List.{List}
+use mathlib.Core.List.{List, []}
 use mathlib.Core.Path.{_≡_, refl, sym, ap, _∙_}
-use Prim.Native.Nat.{ℕ, _+_, _*_}
+use Prim.Native.Nat.{ℕ, _+_, _*_, _%_}
 use native.Mathlib.Omega.{arith}
 use lib.Dec.{eqb, ltb}
 use lib.ListN.{length}
@@ -14,24 +14,28 @@ use Rattle.controller.specs.declared.answers.Answer.the-variants.{Done, Unsound
 use Rattle.controller.specs.declared.decision.Decision.{Decision}
 use Rattle.controller.specs.declared.«record».Record.{Record}
 use Rattle.controller.proofs.Laws.Answers.{one-answer}
-use Rattle.controller.specs.Bus.{badTransfer, decided, resetDecided, whole}
+use Rattle.controller.specs.Bus.{decided, resetDecided, whole}
 use Rattle.controller.specs.Answers.{isDone, isRefusal, numberOf}
 use Rattle.controller.specs.Decision.{performed}
 use Rattle.controller.specs.Theorems.{left}
 use Rattle.controller.proofs.Laws.Choice.{cond-elim}
 use Rattle.controller.proofs.Theorems.Refusals.{transfer-refusals}
+use Rattle.captures.proofs.Theorems.Answers.{import-nothing}
+use Rattle.captures.specs.Import.{importing}
 use Rattle.dots.proofs.Theorems.{picture-refusals}
 use Rattle.dots.specs.declared.geometry.Size.{Size}
 use Rattle.dots.specs.Picture.{answered}
 use Rattle.lines.specs.Reading.{lineOf}
 use Rattle.lines.specs.declared.reader.Line.{Line}
-use Rattle.lines.specs.Writing.{Writing, lineWriting, onto, wanting}
+use Rattle.lines.specs.Writing.{Writing, lineWriting, onto}
+use Rattle.lines.proofs.Laws.Nothing.{WritesNothing, writer-nothing}
 use Rattle.planner.specs.Call.{replyTo}
 use Rattle.planner.proofs.Theorems.Wish.{plan-refusals}
 use Rattle.interface.specs.declared.record_bytes.ReadRecord.{ReadRecord}
 use Rattle.interface.specs.declared.record_bytes.ReadRecord.the-variants.{Is, Broken}
 use Rattle.interface.specs.declared.wish_bytes.ReadWish.{ReadWish}
 use Rattle.interface.specs.declared.wish_bytes.ReadWish.the-variants as ReadWish
+use Rattle.interface.specs.CaptureCalls.{importCall}
 use Rattle.interface.specs.ControllerCalls.{Call, resetCall, transferFrom}
 use Rattle.interface.specs.Filling.{Filling}
 use Rattle.interface.specs.LineCalls.{stored, writeCall}
@@ -88,13 +92,19 @@ plan-kept (ReadWish.Is wish) marks values out =
     buffer-kept _ out (reply .answer) (length (reply .plan)) refl
     (λ r. plan-refusals wish marks values out _ _ (record { told = refl; number = refl; buffer = refl }) (not-done (reply .answer) r))
 
+-- a call that writes text, of which it tells a number that is 0 for none
+text-kept : (w : Writing) (out : List ℕ) (tell : List ℕ → ℕ) → tell [] ≡ 0 → WritesNothing w
+    → KeepsBuffer (record { returned = numberOf (w .answer) + 256 * tell (w .text); buffer = onto (w .text) out }) out
+text-kept w out tell none nothing =
+    buffer-kept _ out (w .answer) (tell (w .text)) refl
+    (λ r. let empty = nothing (not-done (w .answer) r) in (ap tell empty ∙ none, ap (λ (t : List ℕ). onto t out) empty))
+
 write-kept : (kind byte wait : ℕ) (out : List ℕ) → KeepsBuffer (writeCall kind byte wait out) out
-unfolding lineWriting wanting isRefusal
-write-kept kind byte wait out =
-    let P : Writing → Type 0 = λ w. isRefusal (w .answer) ≡ true → (length (w .text) ≡ 0) × (onto (w .text) out ≡ out) in
-    buffer-kept _ out (lineWriting kind byte wait out .answer) (length (lineWriting kind byte wait out .text)) refl
-    (cond-elim P (badTransfer kind byte) _ _ (λ _ _. (refl, refl))
-    (λ _. cond-elim P (ltb (length out) 16) _ _ (λ _ _. (refl, refl)) (λ _ r. absurd (false≢true r))))
+write-kept kind byte wait out = text-kept (lineWriting kind byte wait out) out length refl (writer-nothing kind byte wait out)
+
+import-kept : (capture out : List ℕ) → KeepsBuffer (importCall capture out) out
+import-kept capture out =
+    text-kept (importing capture out) out (λ t. length t % 72057594037927936) refl (import-nothing capture out)
 
 read-kept : (line : Line) (out : List ℕ) → KeepsBuffer (stored line out) out
 unfolding stored
@@ -149,4 +159,5 @@ call-refusals =
       plan = λ wish marks values out. plan-kept (wishIn wish) marks values out;
       write-line = write-kept;
       read-line = λ text out. read-kept (lineOf text) out;
+      import = import-kept;
     }
