@@ -9,3 +9,5 @@ pub mod MadeText
 pub mod MadeLevels
 pub mod MadeHeader
 pub mod MadePulse
+pub mod Behind
+pub mod Changes

@@ -3,3 +3,5 @@ pub mod Cases
 pub mod Empty
 pub mod Stamps
 pub mod Made
+pub mod Unheeded
+pub mod Form

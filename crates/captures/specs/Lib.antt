@@ -7,3 +7,4 @@ pub mod Walk
 pub mod Promises
 pub mod Made
 pub mod Theorems
+pub mod Unheeded

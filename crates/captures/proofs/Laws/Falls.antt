@@ -93,7 +93,7 @@ over Changes = true
 over Dump = true
 over Wrong = true
 
-over-asked : (phase : Phase) → 3 ≤ asked phase → over phase ≡ true
+pub over-asked : (phase : Phase) → 3 ≤ asked phase → over phase ≡ true
 unfolding over
 over-asked (Section scaled) late = absurd (omega arith)
 over-asked Scale late = absurd (omega arith)
@@ -149,7 +149,7 @@ over-past (VarName scaled) w is = absurd (false≢true is)
 over-past (Close scaled) w is = absurd (false≢true is)
 over-past Ending w is = absurd (false≢true is)
 
-declares-never : (phase : Phase) (ws : List Word) (code : Word) → over phase ≡ true → declares phase ws code ≡ false
+pub declares-never : (phase : Phase) (ws : List Word) (code : Word) → over phase ≡ true → declares phase ws code ≡ false
 unfolding declares
 declares-never phase [] code is = refl
 declares-never phase (w ∷ ws) code is = simp (over-past phase w is .1, declares-never (past phase w) ws code (over-past phase w is .0))
