@@ -5,3 +5,4 @@ pub mod Stamps
 pub mod Made
 pub mod Unheeded
 pub mod Form
+pub mod Grammar

@@ -8,3 +8,4 @@ pub mod Promises
 pub mod Made
 pub mod Theorems
 pub mod Unheeded
+pub mod Grammar

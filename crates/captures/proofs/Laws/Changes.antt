@@ -52,7 +52,7 @@ change-no-stamp (level ∷ []) is = absurd (false≢true is)
 change-no-stamp (level ∷ first ∷ rest) is =
     let low = level-between level is .0 in simp (ne-eqb level (code "#") (λ e. omega arith))
 
-filled : (byte : ℕ) (w : Word) → isEmpty (byte ∷ w) ≡ false
+pub filled : (byte : ℕ) (w : Word) → isEmpty (byte ∷ w) ≡ false
 filled byte w = ne-eqb (length (byte ∷ w)) 0 (λ e. omega arith)
 
 -- a change leaves the phase, if its code is plain
