@@ -11,3 +11,4 @@ pub mod MadeHeader
 pub mod MadePulse
 pub mod Behind
 pub mod Changes
+pub mod Counted

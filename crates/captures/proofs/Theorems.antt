@@ -6,3 +6,4 @@ pub mod Made
 pub mod Unheeded
 pub mod Form
 pub mod Grammar
+pub mod Subset

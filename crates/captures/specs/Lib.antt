@@ -6,6 +6,6 @@ pub mod Import
 pub mod Walk
 pub mod Promises
 pub mod Made
-pub mod Theorems
 pub mod Unheeded
 pub mod Grammar
+pub mod Theorems

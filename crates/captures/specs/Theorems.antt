@@ -2,6 +2,7 @@
 -- Assumes nothing.
 use mathlib.Core.Bool.{false, true}
 use mathlib.Core.List.{List, [], _∷_, _++_}
+use mathlib.Core.Logic.{_⊎_}
 use mathlib.Core.Path.{_≡_}
 use Prim.Native.Nat.{ℕ, _<_}
 use lib.ListN.{length, getD, replicate}
@@ -12,16 +13,28 @@ use Rattle.lines.specs.Writing.{Writing, Writes, writing}
 use Rattle.captures.specs.declared.scan.Scan.{Scan}
 use Rattle.captures.specs.Words.{Word, same}
 use Rattle.captures.specs.Definitions.{Head, definedBy}
-use Rattle.captures.specs.Falls.{changed, endsStamp, stamped, altered, scannedBy, fallsFrom}
-use Rattle.captures.specs.Import.{fallsOf, inSubset, isMissing, unknownIn, sessionText, importing}
+use Rattle.captures.specs.Falls.{Fall, levelAt, changed, endsStamp, stamped, altered, scannedBy, fallsFrom}
+use Rattle.captures.specs.Import.{fallsOf, sessionText, importing}
+use Rattle.captures.specs.Grammar.{InSubset, Missing}
+
+-- One of these is so.
+unfoldable pub Some : {A : Type 0} → (A → Type 0) → List A → Type 0
+Some P [] = ⊥
+Some P (x ∷ xs) = P x ⊎ Some P xs
+
+-- At a fall RS or RW is at x or z, or the transfer is a write and one of DB0 to DB7 is.
+abbrev pub UnknownAt : Fall → Type 0
+UnknownAt fall =
+    (levelAt (fall .levels) 0 ≡ 2) ⊎ ((levelAt (fall .levels) 1 ≡ 2)
+    ⊎ ((levelAt (fall .levels) 1 ≡ 0) × Some (λ line. levelAt (fall .levels) line ≡ 2) (3 ∷ 4 ∷ 5 ∷ 6 ∷ 7 ∷ 8 ∷ 9 ∷ 10 ∷ [])))
 
 -- The rows of import: 14 text outside the subset, 15 needed signal missing, 28 x or z on a needed line at a fall, then 11, a
 -- buffer shorter than the session's text.
 unfoldable pub importRows : List ℕ → List ℕ → List Row
 importRows capture out =
-    record { number = 14; applies = inSubset capture ≡ false }
-    ∷ record { number = 15; applies = isMissing capture ≡ true }
-    ∷ record { number = 28; applies = unknownIn (fallsOf capture) ≡ true }
+    record { number = 14; applies = InSubset capture → ⊥ }
+    ∷ record { number = 15; applies = Missing capture }
+    ∷ record { number = 28; applies = Some UnknownAt (fallsOf capture) }
     ∷ record { number = 11; applies = length out < length (sessionText capture) }
     ∷ []
 

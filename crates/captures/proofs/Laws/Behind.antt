@@ -51,7 +51,7 @@ defined-over head w is =
     cond-elim (λ (h : Head). h ≡ entering (past (head .phase) w) head) (isEmpty w) _ _ (λ e. simp e)
     (λ e. simp (over-past (head .phase) w is .1, over-names (head .phase) is))
 
-defined-by-over : (head : Head) (ws : List Word) → over (head .phase) ≡ true
+pub defined-by-over : (head : Head) (ws : List Word) → over (head .phase) ≡ true
     → (definedBy head ws .codes ≡ head .codes) × (definedBy head ws .twice ≡ head .twice)
 unfolding definedBy
 defined-by-over head [] is = (refl, refl)
@@ -96,6 +96,22 @@ scanned-phase all codes scan w =
     (λ _. cond-elim (λ (s : Scan). s .phase ≡ past (scan .phase) w) (isStamp w) _ _ (λ _. refl)
     (λ _. cond-elim (λ (s : Scan). s .phase ≡ past (scan .phase) w) (isChange w) _ _ (λ _. refl) (λ _. refl)))
     (λ _. refl)
+
+-- whether a code was changed that is not declared: with a word more, in this phase
+unfoldable pub stranger : List Word → Phase → Bool → Word → Bool
+stranger all phase strange w =
+    cond (changesCome phase)
+    (cond (isStamp w) strange (cond (isChange w) (strange || not (declares (Section false) all (drop 1 w))) strange)) strange
+
+pub scanned-stranger : (all codes : List Word) (scan : Scan) (w : Word) → scanned all codes scan w .strange ≡ stranger all (scan .phase) (scan .strange) w
+unfolding scanned moved stamped stranger
+scanned-stranger all codes scan w = go (changesCome (scan .phase)) (isStamp w) (isChange w) _ _ _ _
+  where
+    go : (a b c : Bool) (x y z u : Scan) → cond a (cond b x (cond c y z)) u .strange ≡ cond a (cond b (x .strange) (cond c (y .strange) (z .strange))) (u .strange)
+    go true true c x y z u = refl
+    go true false true x y z u = refl
+    go true false false x y z u = refl
+    go false b c x y z u = refl
 
 pub scanned-reached : (all codes : List Word) (scan : Scan) (ws : List Word) → scannedBy all codes scan ws .phase ≡ reached (scan .phase) ws
 unfolding scannedBy reached

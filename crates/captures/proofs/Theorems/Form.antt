@@ -21,7 +21,7 @@ use Rattle.captures.specs.Falls.{blankScan, moved, stamped, scanned, sca
 use Rattle.captures.specs.Import.{inSubset, isMissing, judged, importing}
 use Rattle.captures.specs.Unheeded.{phaseAfter, OneForm, AllOneForm, FormAlone}
 use Rattle.captures.proofs.Laws.Falls.{over, over-past}
-use Rattle.captures.proofs.Laws.Behind.{changes-over, codesThen, formThen, missing-then, scanThen, scanned-phase, scanned-reached, subset-then}
+use Rattle.captures.proofs.Laws.Behind.{changes-over, codesThen, formThen, missing-then, scanThen, scanned-phase, scanned-reached, scanned-stranger, stranger, subset-then}
 use Rattle.captures.proofs.Laws.Changes.{change-no-stamp, change-past}
 use Rattle.captures.proofs.Theorems.Answers.{outside-first}
 
@@ -56,22 +56,6 @@ form-past phase w v is =
     (λ come. change-past phase w come (changes .0) ∙ ap (λ (c : Word). cond (isPlain c) phase Wrong) (changes .2) ∙ sym (change-past phase v come (changes .1)))
     (λ none. let wrong = over-wrong phase is none in
     ap (λ (p : Phase). past p w) wrong ∙ wrong-past w ∙ sym (wrong-past v) ∙ sym (ap (λ (p : Phase). past p v) wrong)))
-
--- whether a code was changed that is not declared: with a word more, in this phase
-unfoldable stranger : List Word → Phase → Bool → Word → Bool
-stranger all phase strange w =
-    cond (changesCome phase)
-    (cond (isStamp w) strange (cond (isChange w) (strange || not (declares (Section false) all (drop 1 w))) strange)) strange
-
-scanned-stranger : (all codes : List Word) (scan : Scan) (w : Word) → scanned all codes scan w .strange ≡ stranger all (scan .phase) (scan .strange) w
-unfolding scanned moved stamped stranger
-scanned-stranger all codes scan w = go (changesCome (scan .phase)) (isStamp w) (isChange w) _ _ _ _
-  where
-    go : (a b c : Bool) (x y z u : Scan) → cond a (cond b x (cond c y z)) u .strange ≡ cond a (cond b (x .strange) (cond c (y .strange) (z .strange))) (u .strange)
-    go true true c x y z u = refl
-    go true false true x y z u = refl
-    go true false false x y z u = refl
-    go false b c x y z u = refl
 
 form-stranger : (all : List Word) (phase : Phase) (strange : Bool) (w v : Word) → OneForm w v → stranger all phase strange w ≡ stranger all phase strange v
 unfolding stranger

@@ -52,25 +52,22 @@ closed scaled ws P make left = subst P (sym (left .1)) (make (left .0) (left .2)
 module _ (w : Word) (ws : List Word) where
   opening : (scaled : Bool) → Rest (opened scaled w) ws → Sections scaled (w ∷ ws)
   unfolding Rest opened
-  opening true =
-      cond-elim (λ (p : Phase). Rest p ws → Sections true (w ∷ ws)) (is "$scope" w) _ _ (λ e. this (bytesOf "$scope") w ws (Sections true) e)
-      (λ _. cond-elim (λ (p : Phase). Rest p ws → Sections true (w ∷ ws)) (is "$var" w) _ _ (λ e. this (bytesOf "$var") w ws (Sections true) e)
-      (λ _. cond-elim (λ (p : Phase). Rest p ws → Sections true (w ∷ ws)) (is "$upscope" w) _ _
-      (λ e left. this (bytesOf "$upscope") w ws (Sections true) e
-      (closed true ws (λ l. Sections true (bytesOf "$upscope" ∷ l)) (λ rest made. Grammar.upscope true rest made) left))
-      (λ _. cond-elim (λ (p : Phase). Rest p ws → Sections true (w ∷ ws)) (is "$timescale" w) _ _ (λ _ wrong. absurd wrong)
-      (λ _. cond-elim (λ (p : Phase). Rest p ws → Sections true (w ∷ ws)) (is "$enddefinitions" w) _ _
-      (λ e. this (bytesOf "$enddefinitions") w ws (Sections true) e) (λ _ wrong. absurd wrong)))))
-  opening false =
-      cond-elim (λ (p : Phase). Rest p ws → Sections false (w ∷ ws)) (is "$scope" w) _ _ (λ e. this (bytesOf "$scope") w ws (Sections false) e)
-      (λ _. cond-elim (λ (p : Phase). Rest p ws → Sections false (w ∷ ws)) (is "$var" w) _ _ (λ e. this (bytesOf "$var") w ws (Sections false) e)
-      (λ _. cond-elim (λ (p : Phase). Rest p ws → Sections false (w ∷ ws)) (is "$upscope" w) _ _
-      (λ e left. this (bytesOf "$upscope") w ws (Sections false) e
-      (closed false ws (λ l. Sections false (bytesOf "$upscope" ∷ l)) (λ rest made. Grammar.upscope false rest made) left))
-      (λ _. cond-elim (λ (p : Phase). Rest p ws → Sections false (w ∷ ws)) (is "$timescale" w) _ _
-      (λ e. this (bytesOf "$timescale") w ws (Sections false) e)
-      (λ _. cond-elim (λ (p : Phase). Rest p ws → Sections false (w ∷ ws)) (is "$enddefinitions" w) _ _ (λ _ wrong. absurd wrong)
+  opening scaled =
+      cond-elim (λ (p : Phase). Rest p ws → Sections scaled (w ∷ ws)) (is "$scope" w) _ _ (λ e. this (bytesOf "$scope") w ws (Sections scaled) e)
+      (λ _. cond-elim (λ (p : Phase). Rest p ws → Sections scaled (w ∷ ws)) (is "$var" w) _ _ (λ e. this (bytesOf "$var") w ws (Sections scaled) e)
+      (λ _. cond-elim (λ (p : Phase). Rest p ws → Sections scaled (w ∷ ws)) (is "$upscope" w) _ _
+      (λ e left. this (bytesOf "$upscope") w ws (Sections scaled) e
+      (closed scaled ws (λ l. Sections scaled (bytesOf "$upscope" ∷ l)) (λ rest made. Grammar.upscope scaled rest made) left))
+      (λ _. cond-elim (λ (p : Phase). Rest p ws → Sections scaled (w ∷ ws)) (is "$timescale" w) _ _
+      (λ e. cond-elim (λ (p : Phase). Rest p ws → Sections scaled (w ∷ ws)) scaled _ _ (λ _ wrong. absurd wrong)
+      (λ first left. at-scale first (this (bytesOf "$timescale") w ws (Sections false) e left)))
+      (λ _. cond-elim (λ (p : Phase). Rest p ws → Sections scaled (w ∷ ws)) (is "$enddefinitions" w) _ _
+      (λ e. cond-elim (λ (p : Phase). Rest p ws → Sections scaled (w ∷ ws)) scaled _ _
+      (λ been left. at-scale been (this (bytesOf "$enddefinitions") w ws (Sections true) e left)) (λ _ wrong. absurd wrong))
       (λ _ wrong. absurd wrong)))))
+    where
+      at-scale : {b : Bool} → scaled ≡ b → Sections b (w ∷ ws) → Sections scaled (w ∷ ws)
+      at-scale {b} is = subst (λ (t : Bool). Sections t (w ∷ ws)) (sym is)
 
   -- stamps and changes
   later : (inside stamps : Bool) (next : Phase) → (Rest next ws → Later inside ws) → (stamps ≡ true → isStamp w ≡ true → Rest next ws → Later inside (w ∷ ws))
@@ -131,11 +128,11 @@ module _ (w : Word) (ws : List Word) where
   before Wrong = λ wrong. wrong
 
 -- none of these words is empty
-unfoldable AllFilled : List Word → Type 0
+unfoldable pub AllFilled : List Word → Type 0
 AllFilled [] = Unit {0}
 AllFilled (w ∷ ws) = (isEmpty w ≡ false) × AllFilled ws
 
-said-filled : (ws : List Word) → AllFilled (said ws)
+pub said-filled : (ws : List Word) → AllFilled (said ws)
 unfolding AllFilled said
 said-filled [] = tt
 said-filled ([] ∷ ws) = said-filled ws
@@ -183,7 +180,7 @@ leads : (phase next : Phase) (w : Word) (ws : List Word) → past phase w ≡ ne
 unfolding reached
 leads phase next w ws goes = subst (λ (p : Phase). isWhole (reached p ws) ≡ true) (sym goes)
 
-past-is : (phase : Phase) (w : Word) → isEmpty w ≡ false → isPlain w ≡ true → past phase w ≡ after phase w
+pub past-is : (phase : Phase) (w : Word) → isEmpty w ≡ false → isPlain w ≡ true → past phase w ≡ after phase w
 unfolding past
 past-is phase w some plain = simp (some, plain)
 

@@ -54,19 +54,19 @@ falls-said all codes scan ((byte ∷ w) ∷ ws) =
     ap (λ (l : List Fall). fallAt (ends scan (byte ∷ w) && falls scan) scan ++ l) (falls-said all codes (scanned all codes scan (byte ∷ w)) ws)
 
 module _ (capture : List ℕ) where
-  abbrev saidIn : List Word
+  abbrev pub saidIn : List Word
   saidIn = said (words capture)
 
-  head-said : headOf capture ≡ definedBy blankHead saidIn
+  pub head-said : headOf capture ≡ definedBy blankHead saidIn
   head-said = defined-said blankHead (words capture)
 
-  abbrev codesSaid : List Word
+  abbrev pub codesSaid : List Word
   codesSaid = definedBy blankHead saidIn .codes
 
   declared-said : SameDeclared (words capture) saidIn
   declared-said byte code = declares-said (Section false) (words capture) byte code
 
-  scan-said : scanOf capture ≡ scannedBy saidIn codesSaid blankScan saidIn
+  pub scan-said : scanOf capture ≡ scannedBy saidIn codesSaid blankScan saidIn
   scan-said =
       ap (λ (h : Head). scannedBy (words capture) (h .codes) blankScan (words capture)) head-said
       ∙ scanned-by-all (words capture) saidIn codesSaid declared-said blankScan (words capture)
