@@ -5,3 +5,4 @@ pub mod Lengths
 pub mod Waits
 pub mod Kinds
 pub mod Nothing
+pub mod Session

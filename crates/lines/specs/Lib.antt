@@ -2,6 +2,7 @@ pub mod Text
 pub mod Digits
 pub mod Line
 pub mod Reading
+pub mod Session
 pub mod Writing
 pub mod ReportText
 pub mod Words

@@ -14,8 +14,9 @@ use Rattle.controller.specs.Answers.{numberOf, Row, Tells}
 use Rattle.controller.specs.Rows.{NoTransfer}
 use Rattle.lines.specs.declared.reader.Line.{Line}
 use Rattle.lines.specs.declared.writer.Written.{Written}
-use Rattle.lines.specs.Line.{line, waitLimit}
+use Rattle.lines.specs.Line.{line, linesOf, waitLimit}
 use Rattle.lines.specs.Reading.{lineOf, badLine}
+use Rattle.lines.specs.Session.{sessionOf}
 use Rattle.lines.specs.Writing.{Writing, Writes, writing, wanting, lineWriting}
 
 -- A transfer that a line can say: a kind 0 to 3, a byte, 00h for a read, and a wait 0 to 4,294,967,295.
@@ -106,3 +107,13 @@ OneWriting = (w : Writing) (out : List ℕ) (a b : Written) (x y : List ℕ) →
 -- And two lines that both are what the reader promises are one.
 abbrev pub OneRead : Type 0
 OneRead = (text : List ℕ) (a b : Line) → a ≡ lineOf text → b ≡ lineOf text → a ≡ b
+
+-- The lines of transfers are read as those transfers, and then what is after them.
+abbrev pub SessionReadsBack : Type 0
+SessionReadsBack =
+    (ts : List Sent) (more : List ℕ) → AllSayable ts
+    → sessionOf (linesOf ts ++ more) ≡ record { sent = ts ++ sessionOf more .sent; end = sessionOf more .end }
+
+-- A text is no session: there are no transfers whose lines it is.
+abbrev pub NoSession : List ℕ → Type 0
+NoSession text = (ts : List Sent) → AllSayable ts → text ≡ linesOf ts → ⊥

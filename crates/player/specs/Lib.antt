@@ -1,4 +1,3 @@
-pub mod Session
 pub mod Report
 pub mod Standing
 pub mod Walk

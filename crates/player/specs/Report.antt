@@ -10,7 +10,7 @@ use Rattle.controller.specs.Record.{resetRecord}
 use Rattle.controller.specs.Runs.{State, Heard, heard, ran}
 use Rattle.lines.specs.ReportText.{header, row}
 use Rattle.lines.specs.Writing.{Writing, wanting}
-use Rattle.player.specs.Session.{Session, sessionOf}
+use Rattle.lines.specs.Session.{Session, sessionOf}
 
 -- The row of a line: its number, and what its transfer tells.
 abbrev pub rowAt : ℕ → Heard → List ℕ

@@ -10,9 +10,9 @@ use Rattle.controller.specs.declared.answers.Answer.the-variants.{Done}
 use Rattle.controller.specs.declared.sent.Sent.{Sent}
 use Rattle.controller.specs.Answers.{isRefusal}
 use Rattle.controller.specs.Runs.{State, decidedOf, after, ran}
+use Rattle.lines.specs.Session.{Session, readUpTo}
 use Rattle.player.specs.declared.tally.Tally.{Tally}
 use Rattle.player.specs.declared.through.Standing.{Standing}
-use Rattle.player.specs.Session.{Session, readUpTo}
 use Rattle.player.specs.Report.{start}
 
 -- The answer to each of these transfers: `heard` has their numbers (`AnswersHeard`).

@@ -15,18 +15,12 @@ use Rattle.controller.specs.Runs.{State, Heard, decidedOf, heard, ran}
 use Rattle.lines.specs.declared.writer.Written.{Written}
 use Rattle.lines.specs.Line.{linesOf}
 use Rattle.lines.specs.ReportText.{header, row}
-use Rattle.lines.specs.Theorems.{AllSayable, Starts}
+use Rattle.lines.specs.Theorems.{AllSayable, Starts, NoSession}
 use Rattle.lines.specs.Writing.{Writes}
+use Rattle.lines.specs.Session.{readUpTo, sessionOf}
 use Rattle.player.specs.declared.through.Standing.{Standing}
-use Rattle.player.specs.Session.{readUpTo, sessionOf}
 use Rattle.player.specs.Report.{rowsFrom, start, report, reportSize, playing}
 use Rattle.player.specs.Standing.{answersTo, countingAll, noRefusal, standing, stood}
-
--- The lines of transfers are read as those transfers, and then what is after them.
-abbrev pub SessionReadsBack : Type 0
-SessionReadsBack =
-    (ts : List Sent) (more : List ℕ) → AllSayable ts
-    → sessionOf (linesOf ts ++ more) ≡ record { sent = ts ++ sessionOf more .sent; end = sessionOf more .end }
 
 -- The report of the lines of transfers is the header and a row for each, with what a controller tells that starts from reset.
 abbrev pub ReportTells : Type 0
@@ -47,10 +41,6 @@ playRows text out = record { number = 11; applies = length out < 6 * length text
 -- 11 is given exactly there.
 abbrev pub PlayAnswers : Type 0
 PlayAnswers = (text out : List ℕ) → Tells (numberOf (playing text out .answer)) (playRows text out)
-
--- A text is no session: there are no transfers whose lines it is.
-abbrev pub NoSession : List ℕ → Type 0
-NoSession text = (ts : List Sent) → AllSayable ts → text ≡ linesOf ts → ⊥
 
 -- The row of play_through: 12.
 unfoldable pub throughRows : List ℕ → List Row

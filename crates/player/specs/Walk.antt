@@ -10,10 +10,10 @@ use Rattle.controller.specs.declared.answers.Answer.{Answer}
 use Rattle.controller.specs.Answers.{isDone}
 use Rattle.controller.specs.Runs.{State}
 use Rattle.lines.specs.ReportText.{rowSize}
+use Rattle.lines.specs.Session.{Session, readUpTo}
 use Rattle.player.specs.declared.through.Standing.{Standing}
 use Rattle.player.specs.declared.walk.Ended.{Ended}
 use Rattle.player.specs.declared.walk.Place.{Place}
-use Rattle.player.specs.Session.{Session, readUpTo}
 use Rattle.player.specs.Report.{rowsOf}
 use Rattle.player.specs.Standing.{leaving, stood}
 

@@ -24,16 +24,17 @@ use Rattle.lines.specs.declared.writer.Written.{Written}
 use Rattle.lines.specs.Reading.{lineOf}
 use Rattle.lines.specs.ReportText.{header, row, rowSize}
 use Rattle.lines.specs.Writing.{onto, writing, wanting, Writes}
+use Rattle.lines.specs.Session.{Session, endedBy, following, sentOf, readUpTo, sessionOf}
 use Rattle.lines.proofs.Laws.Lengths.{row-fits}
 use Rattle.lines.proofs.Laws.Buffer.{sets-append, sets-next, sets-onto}
+use Rattle.lines.proofs.Laws.Session.{line-long, read-none, read-enough, read-more, read-bad, read-all}
 use Rattle.player.specs.declared.walk.Ended.{Ended}
 use Rattle.player.specs.declared.walk.Place.{Place}
 use Rattle.player.specs.declared.tally.Tally.{Tally}
-use Rattle.player.specs.Session.{Session, endedBy, following, sentOf, readUpTo, sessionOf}
 use Rattle.player.specs.Report.{rowAt, rowsOf, start, report, reportSize}
 use Rattle.player.specs.Standing.{counting, noRefusal}
 use Rattle.player.specs.Walk.{bytesWanted, stateAt, Walked, endedAt, walked, walkedFrom, room, HasRoom, RowTold, Went, Played}
-use Rattle.player.proofs.Laws.Session.{line-long, read-none, read-enough, read-more, read-bad, read-all, rows-none, rows-last, rows-more, leaving-last, leaving-more, counting-below, header-length}
+use Rattle.player.proofs.Laws.Session.{rows-none, rows-last, rows-more, leaving-last, leaving-more, counting-below, header-length}
 use Rattle.player.proofs.Theorems.Fits.{report-fits}
 
 -- a call that writes a text, with the buffer that it wants

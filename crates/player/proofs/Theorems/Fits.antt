@@ -15,12 +15,13 @@ use Rattle.controller.specs.Runs.{State, decidedOf, after, toldOf}
 use Rattle.controller.specs.Answers.{isDone, numberOf}
 use Rattle.lines.specs.Reading.{lineOf}
 use Rattle.lines.specs.ReportText.{header, row, rowSize}
+use Rattle.lines.specs.Session.{sentOf, sessionOf}
 use Rattle.lines.proofs.Laws.Lengths.{row-fits}
 use Rattle.lines.proofs.Laws.Digits.{either}
-use Rattle.player.specs.Session.{sentOf, sessionOf}
+use Rattle.lines.proofs.Laws.Session.{line-long, session-none, session-more, session-bad}
 use Rattle.player.specs.Report.{rowAt, rowsOf, start, report}
 use Rattle.player.specs.Theorems.{ReportFits}
-use Rattle.player.proofs.Laws.Session.{line-long, sent-sound, start-sound, header-length, session-none, session-more, session-bad, rows-none, rows-last, rows-more}
+use Rattle.player.proofs.Laws.Session.{sent-sound, start-sound, header-length, rows-none, rows-last, rows-more}
 
 -- the row of a sound record fits
 row-small : (number : ℕ) (answer : Answer) (byte : ℕ) (rec : Record) → number < 10 ^ 20 → sound rec ≡ true

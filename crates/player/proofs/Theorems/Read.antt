@@ -1,9 +1,8 @@
 -- A session's text is read as the transfers of its lines, and ends with the text, at a bad line, or after so many lines.
 -- Assumes nothing.
-use mathlib.Core.Bool.{true}
 use mathlib.Core.List.{List, [], _∷_, _++_, append-assoc, append-nil}
 use mathlib.Core.Logic.{_⊎_, inl, inr, ⊎-elim}
-use mathlib.Core.Path.{_≡_, refl, sym, ap, _∙_}
+use mathlib.Core.Path.{_≡_, sym, ap, _∙_}
 use Prim.Native.Nat.{ℕ, zero, suc, _<_, _≤_}
 use native.Mathlib.Omega.{arith}
 use lib.ListN.{length, drop, length-append, length-drop}
@@ -15,44 +14,20 @@ use Rattle.lines.specs.declared.reader.Line.{Line}
 use Rattle.lines.specs.Line.{line, linesOf}
 use Rattle.lines.specs.Reading.{lineOf}
 use Rattle.lines.specs.Theorems.{AllSayable}
+use Rattle.lines.specs.Session.{Session, following, sentOf, readUpTo, sessionOf}
 use Rattle.lines.proofs.Laws.Digits.{either}
 use Rattle.lines.proofs.Laws.Lengths.{line-length}
 use Rattle.lines.proofs.Theorems.Written.{written-reads-back}
 use Rattle.lines.proofs.Theorems.Read.{reader-answers}
-use Rattle.player.specs.Session.{Session, following, sentOf, readUpTo, sessionOf}
+use Rattle.lines.proofs.Theorems.Session.{is-done, lines-read}
+use Rattle.lines.proofs.Laws.Session.{line-long, read-none, read-enough, read-more, read-bad, session-none, session-more, session-bad}
 use Rattle.player.specs.Report.{lastRow, rowsOf, start, report}
 use Rattle.player.specs.Standing.{leaving, noRefusal, standing}
-use Rattle.player.specs.Theorems.{SessionReadsBack, ReportTells, SessionEnds, Reaches, LongReaches, MostStops}
-use Rattle.player.proofs.Laws.Session.{line-long, read-none, read-enough, read-more, read-bad, session-none, session-more, session-bad}
-
-is-done : isDone Done ≡ true
-is-done = refl
-
-pub session-reads-back : SessionReadsBack
-unfolding linesOf AllSayable
-session-reads-back [] more can = refl
-session-reads-back (t ∷ ts) more can =
-    let own = line (t .kind) (t .byte) (t .wait) in
-    let rest = linesOf ts ++ more in
-    let read = written-reads-back (t .kind) (t .byte) (t .wait) rest (can .0) in
-    let some : 0 < length (own ++ rest) = omega (arith, length-append own rest, line-length (t .kind) (t .byte) (t .wait)) in
-    ap sessionOf (append-assoc own (linesOf ts) more)
-    ∙ session-more (own ++ rest) some (ap (λ (l : Line). isDone (l .answer)) read ∙ is-done)
-    ∙ ap (λ (l : Line). following (sentOf l) (sessionOf (drop (l .length) (own ++ rest)))) read
-    ∙ ap (λ (l : List ℕ). following t (sessionOf l)) (drop-append-seam own rest)
-    ∙ ap (following t) (session-reads-back ts more (can .1))
-
--- the lines of transfers are those transfers, and end well
-lines-read : (ts : List Sent) → AllSayable ts → sessionOf (linesOf ts) ≡ record { sent = ts; end = Done }
-lines-read ts can =
-    ap sessionOf (sym (append-nil (linesOf ts)))
-    ∙ session-reads-back ts [] can
-    ∙ ap (λ (s : Session). record { sent = ts ++ s .sent; end = s .end }) session-none
-    ∙ ap (λ (l : List Sent). record { sent = l; end = Done }) (append-nil ts)
+use Rattle.player.specs.Theorems.{ReportTells, SessionEnds, Reaches, LongReaches, MostStops}
 
 pub report-tells : ReportTells
 unfolding report rowsOf lastRow
-report-tells ts can = simp (lines-read ts can, is-done, append-nil)
+report-tells ts can = simp (lines-read ts can, append-nil)
 
 ends-by : (k : ℕ) (text : List ℕ) → length text ≤ k → (sessionOf text .end ≡ Done) ⊎ (sessionOf text .end ≡ BadLine)
 ends-by zero [] enough = inl (ap (λ (s : Session). s .end) session-none)

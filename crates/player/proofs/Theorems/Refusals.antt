@@ -12,9 +12,9 @@ use Rattle.controller.specs.declared.answers.Answer.{Answer}
 use Rattle.controller.specs.declared.sent.Sent.{Sent}
 use Rattle.controller.specs.Answers.{isRefusal, numberOf}
 use Rattle.controller.specs.Runs.{State, decidedOf, after, heard, ran}
+use Rattle.lines.specs.Session.{readUpTo}
 use Rattle.lines.proofs.Laws.Digits.{either}
 use Rattle.player.specs.declared.tally.Tally.{Tally}
-use Rattle.player.specs.Session.{readUpTo}
 use Rattle.player.specs.Report.{start}
 use Rattle.player.specs.Standing.{answersTo, counting, countingAll, leaving, noRefusal, standing}
 use Rattle.player.specs.Theorems.{AnswersHeard, NoneIsFirst, NoneRefused, FirstTold}

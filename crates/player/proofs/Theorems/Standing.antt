@@ -11,12 +11,13 @@ use Rattle.controller.specs.Runs.{State, decidedOf, after, ran}
 use Rattle.controller.proofs.Laws.Memory.{performed-length}
 use Rattle.controller.specs.Answers.{isDone}
 use Rattle.lines.specs.Reading.{lineOf}
+use Rattle.lines.specs.Session.{sentOf, readUpTo}
 use Rattle.lines.proofs.Laws.Digits.{either}
-use Rattle.player.specs.Session.{sentOf, readUpTo}
+use Rattle.lines.proofs.Laws.Session.{read-none, read-enough, read-more, read-bad}
 use Rattle.player.specs.Report.{start}
 use Rattle.player.specs.Standing.{leaving, standing}
 use Rattle.player.specs.Theorems.{OneStanding, StandingTold}
-use Rattle.player.proofs.Laws.Session.{sent-sound, start-sound, read-none, read-enough, read-more, read-bad}
+use Rattle.player.proofs.Laws.Session.{sent-sound, start-sound}
 
 -- a controller with a sound record and a whole memory
 abbrev Good : State → Type 0

@@ -4,7 +4,7 @@ use Rattle.controller.specs.Runs.{State}
 use native.Mathlib.Omega.{arith}
 use Rattle.player.specs.declared.tally.Tally.{Tally}
 use Rattle.player.specs.Report.{start}
-use Rattle.player.specs.Session.{readUpTo}
+use Rattle.lines.specs.Session.{readUpTo}
 use Rattle.player.specs.Standing.{leaving, standing}
 use Rattle.player.specs.Walk.{Walked, walked}
 use Rattle.player.proofs.Laws.Session.{reset-starts}
