@@ -19,20 +19,20 @@
 #define YAROPESK_VALUE(returned) ((returned) / 256)
 
 /* Answers. */
-#define YAROPESK_DONE 0           /* no refusal */
-#define YAROPESK_UNSOUND 1        /* the record is unsound */
-#define YAROPESK_NOT_WHOLE 2      /* the memory, the marks or the values are not 144 bytes */
-#define YAROPESK_BAD_TRANSFER 3   /* a kind above 3, or a read with a byte other than 0 */
-#define YAROPESK_BUSY 4           /* the transfer came too early and is lost */
-#define YAROPESK_FIRST_HALF 5     /* no refusal: the first half is taken and waits for the second */
-#define YAROPESK_NO_CELL 6        /* a display address without a cell */
-#define YAROPESK_STALE_READ 7     /* no refusal: a data read of a stale register, done */
-#define YAROPESK_CROSSED_HALVES 8 /* no refusal: done, the second half was of another kind than the first */
-#define YAROPESK_COUNTER_OFF 9    /* the counter is on no cell; never given, since such a record is answered 1 before */
-#define YAROPESK_BAD_SIZE 10      /* columns or lines out of range */
-#define YAROPESK_OUTPUT_SHORT 11  /* the output is too short */
-#define YAROPESK_BAD_LINE 12      /* no session line */
-#define YAROPESK_NOT_WISH 13      /* the wish or a mark is none */
+#define YAROPESK_DONE 0            /* no refusal */
+#define YAROPESK_UNSOUND 1         /* the record is unsound */
+#define YAROPESK_NOT_WHOLE 2       /* the memory, the marks or the values are not 144 bytes */
+#define YAROPESK_BAD_TRANSFER 3    /* a kind above 3, or a read with a byte other than 0 */
+#define YAROPESK_BUSY 4            /* the transfer came too early and is lost */
+#define YAROPESK_FIRST_HALF 5      /* no refusal: the first half is taken and waits for the second */
+#define YAROPESK_NO_CELL 6         /* a display address without a cell */
+#define YAROPESK_STALE_READ 7      /* no refusal: a data read of a stale register, done */
+#define YAROPESK_CROSSED_HALVES 8  /* no refusal: done, the second half was of another kind than the first */
+#define YAROPESK_COUNTER_OFF 9     /* the counter is on no cell; never given, since such a record is answered 1 before */
+#define YAROPESK_BAD_SIZE 10       /* columns or lines out of range */
+#define YAROPESK_OUTPUT_SHORT 11   /* the output is too short */
+#define YAROPESK_BAD_LINE 12       /* no session line */
+#define YAROPESK_NOT_WISH 13       /* the wish or a mark is none */
 #define YAROPESK_OUTSIDE_SUBSET 14 /* a capture's text outside the subset */
 #define YAROPESK_SIGNAL_MISSING 15 /* a capture without a needed signal */
 #define YAROPESK_LEVEL_UNKNOWN 28  /* a capture with x or z on a needed line where E falls */
@@ -159,6 +159,30 @@ uint32_t yaropesk_write_line(uint8_t kind, uint8_t byte, uint32_t wait, uint8_t 
 /* The session line at the start of a text, as a transfer of six bytes into an output of at least six.
  * Answers: 12, 11, or 0. The value is the line's length, so that the next line begins there. */
 uint32_t yaropesk_read_line(const uint8_t *text, size_t text_length, uint8_t *out, size_t out_length);
+
+/* The session of a capture from a logic pod, as session lines, into an output at least as long as their text. An output
+ * twice as long as the capture always serves: a line has at most 16 bytes, and its transfer takes at least 12 bytes of the
+ * capture, two stamps and two changes of E, each of two characters and a blank.
+ * Answers: 14, 15, 28, 11, or 0; 14, 15 and 28 each look at the whole capture. The value is the length of the lines' text,
+ * for which the returned number has 64 bits.
+ *
+ * What a capture is. Value Change Dump text (IEEE 1364), a subset of it. Words are parted by spaces, tabs, newlines and
+ * carriage returns. First stand the sections $scope, $upscope, $var and, once, $timescale, which says 1 us, in any order,
+ * then $enddefinitions, then stamps, # and a decimal number up to 4,294,967,295, and changes of scalars, 0, 1, x, X, z or
+ * Z before a code; some of these may stand in $dumpvars. All else is answered 14: comments, vectors, a code that is not
+ * declared, a needed name that is declared twice. Needed are the scalars RS, RW, E and DB0 to DB7, named exactly so; where
+ * one is missing the answer is 15. All others are skipped.
+ *
+ * What a transfer is. E counts as it stands after all changes at a stamp; a stamp repeated at once is one stamp, and what
+ * is set before the first counts as at it. Where E goes from 1 at one stamp to 0 at the next there is one transfer, with
+ * the other lines as they then stand: RW is 0 for a write, whose byte is on DB7 to DB0, and 1 for a read, whose byte is
+ * 0; RS is 0 for an instruction or the status, and 1 for data. x or z on one of them is answered 28, on DB7 to DB0 only
+ * for a write; a line is x until it is set. The wait is the time since the fall before, modulo 4,294,967,296, since the
+ * pod's stamp starts again from 0.
+ *
+ * The first wait is 0, since a capture does not tell it. Raise it, to at least 10,000, before the session is played after a
+ * reset: else its first transfers, but for status reads, are answered 4. */
+uint64_t yaropesk_import(const uint8_t *capture, size_t capture_length, uint8_t *out, size_t out_length);
 
 #ifdef __cplusplus
 }
