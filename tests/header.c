@@ -1,5 +1,5 @@
 /* What include/yaropesk.h says is so, tried by calling the library: its sizes, answers and kinds, where each byte stands, what
- * a sound record is, and what the transfers of a plan may be answered. Compiles as C99 and as C++98.
+ * a sound record is, what the transfers of a plan may be answered, and captures. Compiles as C99 and as C++98.
  * Prints a line for each check that fails, then 'N passed, M failed', and fails where M is not 0. */
 #include <stdio.h>
 #include <string.h>
@@ -25,7 +25,7 @@ static void check(const char *what, unsigned number, int holds) {
 }
 
 /* The answer in what is returned is this one. */
-static void answered(const char *what, uint32_t returned, uint32_t answer) {
+static void answered(const char *what, uint64_t returned, uint32_t answer) {
     check(what, answer, YAROPESK_ANSWER(returned) == answer);
 }
 
@@ -377,6 +377,75 @@ static void try_exception(void) {
     }
 }
 
+/* The definitions of a capture: RS, RW and E under the codes s, w and e, DB0 to DB6 under 0 to 6, and this name under 7. */
+#define DEFINITIONS(last)                                                                                     \
+    "$timescale 1 us $end $var wire 1 s RS $end $var wire 1 w RW $end $var wire 1 e E $end "                  \
+    "$var wire 1 0 DB0 $end $var wire 1 1 DB1 $end $var wire 1 2 DB2 $end $var wire 1 3 DB3 $end "            \
+    "$var wire 1 4 DB4 $end $var wire 1 5 DB5 $end $var wire 1 6 DB6 $end $var wire 1 7 " last " $end "       \
+    "$enddefinitions $end "
+#define ALL_DEFINED DEFINITIONS("DB7")
+#define LETTER "1s 0w 10 01 02 03 04 05 16 07 " /* the lines of a data write of 41h */
+#define PULSE "#0 1e #1 0e "
+
+/* Imports into so much of the output, all of which holds EEh before. */
+static uint64_t imported(const char *capture, size_t out_length) {
+    memset(out, 0xEE, sizeof out);
+    return yaropesk_import((const uint8_t *)capture, strlen(capture), out, out_length);
+}
+
+/* The output has this text and behind it what it held before. */
+static int holds_text(const char *text) {
+    size_t length = strlen(text);
+    int holds = memcmp(out, text, length) == 0;
+    for (size_t i = length; i < sizeof out; i++)
+        holds = holds && out[i] == 0xEE;
+    return holds;
+}
+
+/* A capture of a write and of a read with x on a data line, its stamp once round: the session's text fits exactly, a longer
+ * output stays as it was behind it, and one byte less is too short. */
+static void try_import(void) {
+    static const char capture[] = ALL_DEFINED LETTER "#4294967295 1e #1 0e #2 0s 1w x7 1e #40 0e ";
+    static const char lines[] = "D\t41\t0\nS\t00\t39\n";
+    const size_t length = sizeof lines - 1, rooms[] = {length, sizeof out};
+    for (unsigned i = 0; i < 2; i++) {
+        uint64_t returned = imported(capture, rooms[i]);
+        answered("capture", returned, YAROPESK_DONE);
+        check("length of a session", i, YAROPESK_VALUE(returned) == length);
+        check("lines of a session", i, holds_text(lines));
+    }
+    check("short session", 0, imported(capture, length - 1) == YAROPESK_OUTPUT_SHORT && holds_text(""));
+    check("no transfers", 0, imported(ALL_DEFINED, 0) == YAROPESK_DONE && holds_text(""));
+}
+
+/* The refusals of an import, in their order: each capture would be refused for what stands below it too, and no output is
+ * lent. */
+static void try_import_refusals(void) {
+    static const struct {
+        const char *capture;
+        uint32_t answer;
+    } rows[] = {
+        {"", YAROPESK_OUTSIDE_SUBSET},
+        {DEFINITIONS("other") PULSE "$comment $end ", YAROPESK_OUTSIDE_SUBSET},
+        {DEFINITIONS("other") PULSE "1? ", YAROPESK_OUTSIDE_SUBSET},
+        {DEFINITIONS("DB6") PULSE, YAROPESK_OUTSIDE_SUBSET},
+        {DEFINITIONS("other") PULSE, YAROPESK_SIGNAL_MISSING},
+        {ALL_DEFINED PULSE, YAROPESK_LEVEL_UNKNOWN},
+        {ALL_DEFINED LETTER PULSE, YAROPESK_OUTPUT_SHORT},
+    };
+    for (unsigned i = 0; i < sizeof rows / sizeof rows[0]; i++)
+        check("refused import", i, imported(rows[i].capture, 0) == rows[i].answer && holds_text(""));
+}
+
+/* What an output that always serves is reckoned from: pulses of 12 bytes with lines of 16, but for the first, whose wait is
+ * 0. Each stamp of a fall is one below the one before it, so that the wait is 4,294,967,295. */
+static void try_longest_session(void) {
+    static const char capture[] = ALL_DEFINED LETTER "#1 1e #9 0e #1 1e #8 0e #1 1e #7 0e ";
+    static const char lines[] = "D\t41\t0\nD\t41\t4294967295\nD\t41\t4294967295\n";
+    check("longest session", 0, YAROPESK_VALUE(imported(capture, 2 * strlen(capture))) == 7 + 2 * YAROPESK_LINE_SIZE);
+    check("longest session's lines", 0, holds_text(lines));
+}
+
 int main(void) {
     try_lent_sizes();
     try_output_sizes();
@@ -391,6 +460,9 @@ int main(void) {
     try_wish_ranges();
     try_restarts();
     try_exception();
+    try_import();
+    try_import_refusals();
+    try_longest_session();
     printf("header: %u passed, %u failed\n", passed, failed);
     return failed == 0 ? 0 : 1;
 }
