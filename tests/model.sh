@@ -1,8 +1,8 @@
 #!/bin/sh
 # Compares the programs `session` and `glass` and the library with the independent model under rust/: its own tests, random
-# session texts, drawings and calls through both, and wrong models, which must be found out. Before that its layout is checked,
-# and no warning of clippy's may be left. Where no cargo is found nothing is compared, and that is said; with CI=true it fails.
-# Where cargo has no fmt or no clippy that is said too.
+# session texts, drawings, calls and captures through both, and wrong models, which must be found out. Before that its layout is
+# checked, and no warning of clippy's may be left. Where no cargo is found nothing is compared, and that is said; with CI=true it
+# fails. Where cargo has no fmt or no clippy that is said too.
 set -eu
 root=$(cd "$(dirname "$0")/.." && pwd)
 program=$root/target/bin/session
@@ -42,3 +42,5 @@ built=$root/rust/target/release
 "$built/compare_glass" "$glass" --wrong=all
 "$built/compare_calls"
 "$built/compare_calls" --wrong=all
+"$built/compare_captures"
+"$built/compare_captures" --wrong=all

@@ -1,12 +1,13 @@
-//! The six calls of `include/yaropesk.h` over bytes, and the model behind them.
+//! The seven calls of `include/yaropesk.h` over bytes, and the model behind them.
 //!
-//! Written from the header, document 01 and `model` alone.
+//! Written from the header, the documents and `model` alone.
 
 use crate::bytes::{record_bytes, record_of, wish_of, RECORD_BYTES};
 use crate::font::SHAPES;
-use crate::model::{self, Answer, Reader, Record, Size, Step, Wish, FONT, TRANSFER_BYTES};
+use crate::model::{self, Answer, Importer, Reader, Record, Size, Step, Wish};
+use crate::model::{FONT, TRANSFER_BYTES};
 
-/// The six calls. Each returns the answer's number plus 256 times a byte, a count or
+/// The seven calls. Each returns the answer's number plus 256 times a byte, a count or
 /// a length.
 pub trait Calls {
     fn reset(&self, record: &mut [u8], memory: &mut [u8]) -> u32;
@@ -15,27 +16,33 @@ pub trait Calls {
     fn plan(&self, wish: &[u8], marks: &[u8], values: &[u8], out: &mut [u8]) -> u32;
     fn write_line(&self, kind: u8, byte: u8, wait: u32, out: &mut [u8]) -> u32;
     fn read_line(&self, text: &[u8], out: &mut [u8]) -> u32;
+    fn import(&self, capture: &[u8], out: &mut [u8]) -> u64;
 }
 
 /// What a call returns: "answer + 256 x byte", count or length.
 pub fn returned(answer: Answer, value: usize) -> u32 {
-    u32::from(answer) + 256 * value as u32
+    returned_wide(answer, value) as u32
 }
 
-pub fn answer_of(returned: u32) -> Answer {
-    returned as Answer
+/// The same in 64 bits, for a length that has no bound.
+pub fn returned_wide(answer: Answer, value: usize) -> u64 {
+    u64::from(answer) + 256 * value as u64
 }
 
-pub fn value_of(returned: u32) -> usize {
-    (returned / 256) as usize
+pub fn answer_of(returned: impl Into<u64>) -> Answer {
+    returned.into() as Answer
+}
+
+pub fn value_of(returned: impl Into<u64>) -> usize {
+    (returned.into() / 256) as usize
 }
 
 // ---------------------------------------------------------------------------
 // The model behind the calls
 // ---------------------------------------------------------------------------
 
-/// Functions with the shapes of `record_of` and of the model's; `Step` and `Reader` are
-/// the model's own names for two of them.
+/// Functions with the shapes of `record_of` and of the model's; `Step`, `Reader` and
+/// `Importer` are the model's own names for three of them.
 pub type RecordReader = fn(&[u8]) -> Option<Record>;
 pub type Resetter = fn(Record, &mut [u8]) -> (Answer, Record);
 pub type Painter = fn(&Record, &[u8], Size, bool, &mut [u8], &[u8; FONT]) -> Answer;
@@ -53,6 +60,7 @@ pub struct Model {
     pub plan: Planner,
     pub write_line: Writer,
     pub read_line: Reader,
+    pub import: Importer,
 }
 
 /// The model as it stands.
@@ -64,6 +72,7 @@ pub const MODEL: Model = Model {
     plan: model::plan,
     write_line: model::write_line,
     read_line: model::read_line,
+    import: model::import,
 };
 
 impl Calls for Model {
@@ -134,5 +143,11 @@ impl Calls for Model {
         let transfer = model::transfer_bytes((line.kind, line.byte, line.wait));
         out[..TRANSFER_BYTES].copy_from_slice(&transfer);
         returned(model::DONE, line.length)
+    }
+
+    #[inline]
+    fn import(&self, capture: &[u8], out: &mut [u8]) -> u64 {
+        let (answer, length) = (self.import)(capture, out);
+        returned_wide(answer, length)
     }
 }

@@ -8,7 +8,8 @@ use crate::model::{little_endian, Answer, Size};
 use crate::model::{BAD_LINE, BUSY, CROSSED, DONE, FIRST_HALF, NOT_A_WISH, NO_CELL};
 use crate::model::{OUT_OF_RANGE, STALE, TOO_SHORT, UNSOUND, WRONG_KIND, WRONG_LENGTH};
 
-/// The six functions, in the order of the header.
+/// The functions of the header, in its order, but for the import: texts are made shorter
+/// in other ways, so that it has `imports`.
 #[derive(Clone, Copy, Debug, PartialEq, Eq)]
 pub enum Function {
     Reset,

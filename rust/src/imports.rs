@@ -2,8 +2,9 @@
 
 use std::fmt::{self, Display, Formatter};
 
+use crate::calls::{answer_of, value_of, Calls, MODEL};
 use crate::model::capture::is_blank;
-use crate::model::{self, Answer, Importer};
+use crate::model::Answer;
 use crate::programs::shrink_pieces;
 use crate::random::{random_capture, Chance};
 
@@ -33,7 +34,7 @@ impl Import {
     /// any.
     pub fn random(seed: u64, number: u64) -> Import {
         let capture = random_capture(seed, number);
-        let wanted = Import::with_room(&capture).run(model::import).length;
+        let wanted = Import::with_room(&capture).run(&MODEL).length;
         let mut chance = Chance::new(seed, ROOMS + number);
         let room = match chance.below(20) {
             0..=2 => wanted.saturating_sub(1),
@@ -45,21 +46,20 @@ impl Import {
         Import { capture, room }
     }
 
-    /// An import with room for any session of the capture: two stamps make at most one
-    /// line, and have four bytes at least.
+    /// "An output twice as long as the capture always serves".
     pub fn with_room(capture: &[u8]) -> Import {
         Import {
             capture: capture.to_vec(),
-            room: capture.len() * model::LINE_BYTES,
+            room: 2 * capture.len(),
         }
     }
 
-    pub fn run(&self, import: Importer) -> Imported {
+    pub fn run(&self, calls: &impl Calls) -> Imported {
         let mut out = vec![UNTOUCHED; self.room];
-        let (answer, length) = import(&self.capture, &mut out);
+        let returned = calls.import(&self.capture, &mut out);
         Imported {
-            answer,
-            length,
+            answer: answer_of(returned),
+            length: value_of(returned),
             out,
         }
     }

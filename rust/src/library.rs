@@ -56,6 +56,13 @@ extern "C" {
         out: *mut u8,
         out_length: usize,
     ) -> u32;
+
+    fn yaropesk_import(
+        capture: *const u8,
+        capture_length: usize,
+        out: *mut u8,
+        out_length: usize,
+    ) -> u64;
 }
 
 /// The proved library.
@@ -143,5 +150,19 @@ impl Calls for Library {
         let out_length = out.len();
         // SAFETY: the output overlaps no other slice, and each has its own length.
         unsafe { yaropesk_read_line(text.as_ptr(), text.len(), out.as_mut_ptr(), out_length) }
+    }
+
+    #[inline]
+    fn import(&self, capture: &[u8], out: &mut [u8]) -> u64 {
+        let out_length = out.len();
+        // SAFETY: the output overlaps no other slice, and each has its own length.
+        unsafe {
+            yaropesk_import(
+                capture.as_ptr(),
+                capture.len(),
+                out.as_mut_ptr(),
+                out_length,
+            )
+        }
     }
 }

@@ -9,7 +9,7 @@
 //! with both outcomes, and the exit is 1. Every answer that a function can give must
 //! have come up, or the run fails. With `--wrong` a deliberately wrong model takes the
 //! model's place, and the exit is 1 once it is found out; `--wrong=all` tries each, and
-//! the exit is 0 if all were found out.
+//! the exit is 0 if all were found out. Imports are compared by `compare_captures`.
 
 use yaropesk_model::calls::{answer_of, Model, MODEL};
 use yaropesk_model::case::{Case, Function, Outcome, FUNCTIONS};

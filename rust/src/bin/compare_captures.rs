@@ -1,17 +1,21 @@
-//! Imports random captures with the model, and finds wrong models out by them.
+//! Compares the proved library with the model, capture by capture.
 //!
 //! ```text
 //! compare_captures [SEED] [CAPTURES] [--wrong | --wrong=NAME | --wrong=all]
 //! ```
 //!
-//! The captures are random ones, and every damage of a byte or of a word to some. Every
-//! answer that an import can give must have come up, or the run fails. With `--wrong` a
-//! deliberately wrong model is compared with the model; the import that tells them apart
-//! is made shorter, shown with both outcomes, and the exit is 1. `--wrong=all` tries each,
-//! and the exit is 0 if all were found out.
+//! The captures are random ones, and every damage of a byte or of a word to some. Both
+//! sides import each into outputs of one length; what they return and the whole output
+//! must be equal. On a difference the import is made shorter, shown with both outcomes,
+//! and the exit is 1. Every answer that an import can give must have come up, or the run
+//! fails. With `--wrong` a deliberately wrong model takes the model's place, and the exit
+//! is 1 once it is found out; `--wrong=all` tries each, and the exit is 0 if all were
+//! found out.
 
+use yaropesk_model::calls::{Model, MODEL};
 use yaropesk_model::imports::Import;
-use yaropesk_model::model::{self, Answer, Importer};
+use yaropesk_model::library::Library;
+use yaropesk_model::model::Answer;
 use yaropesk_model::model::{DONE, OUTSIDE_SUBSET, SIGNAL_MISSING, TOO_SHORT, UNKNOWN_LEVEL};
 use yaropesk_model::options::Options;
 use yaropesk_model::programs::show;
@@ -32,10 +36,10 @@ const ANSWERS: [Answer; 5] = [
     UNKNOWN_LEVEL,
 ];
 
-/// The model beside another, and how often it has given each answer, to random captures and
-/// to those that are damaged at every place.
+/// The model beside the library, and how often each answer has been given, to random
+/// captures and to those that are damaged at every place.
 struct Comparison {
-    other: Importer,
+    model: Model,
     random: Tally,
     damaged: Tally,
 }
@@ -43,23 +47,18 @@ struct Comparison {
 /// The shortest import on which the two differ, ready to be shown.
 struct Difference(Import);
 
-fn answer_to(import: &Import) -> Answer {
-    import.run(model::import).answer
-}
-
 impl Comparison {
-    fn differs(&self, import: &Import) -> bool {
-        import.run(model::import) != import.run(self.other)
-    }
-
-    /// One import with both: the answer, or the shortest import found that the model
+    /// One import on both sides: the answer, or the shortest import found that the library
     /// answers so too and on which they differ.
     fn import(&self, import: &Import) -> Result<Answer, Difference> {
-        let answer = answer_to(import);
-        if !self.differs(import) {
-            return Ok(answer);
+        let ours = import.run(&Library);
+        if ours == import.run(&self.model) {
+            return Ok(ours.answer);
         }
-        let shows = |each: &Import| answer_to(each) == answer && self.differs(each);
+        let shows = |each: &Import| {
+            let other = each.run(&Library);
+            other.answer == ours.answer && other != each.run(&self.model)
+        };
         Err(Difference(import.shrunk(shows)))
     }
 
@@ -81,15 +80,15 @@ impl Comparison {
     fn show(&self, Difference(import): &Difference) {
         show("shortest capture", &import.capture);
         println!("with an output of {} bytes", import.room);
-        println!("the model: {}", import.run(model::import));
-        println!("the other: {}", import.run(self.other));
+        println!("the library: {}", import.run(&Library));
+        println!("the model: {}", import.run(&self.model));
     }
 }
 
 /// Compares; true when a difference was found, or an answer missed (and shown).
-fn compare(other: Importer, seed: u64, captures: u64) -> bool {
+fn compare(model: Model, seed: u64, captures: u64) -> bool {
     let mut comparison = Comparison {
-        other,
+        model,
         random: Tally::default(),
         damaged: Tally::default(),
     };
@@ -99,8 +98,8 @@ fn compare(other: Importer, seed: u64, captures: u64) -> bool {
     }
     let (random, damaged) = (comparison.random, comparison.damaged);
     println!("{captures} captures of seed {seed}: no difference");
-    println!("answers seen: {random}");
-    println!("damaged at every place, {}: {damaged}", damaged.sum());
+    println!("  answers seen: {random}");
+    println!("  damaged at every place, {}: {damaged}", damaged.sum());
     let missed = ANSWERS
         .into_iter()
         .find(|&answer| random.times(answer) == 0);
@@ -111,15 +110,11 @@ fn compare(other: Importer, seed: u64, captures: u64) -> bool {
 
 fn main() {
     let usage = "compare_captures [SEED] [CAPTURES]";
-    let options = Options::read(
-        usage,
-        model::import as Importer,
-        wrong::WRONG_IMPORTERS.to_vec(),
-    );
+    let options = Options::read(usage, MODEL, wrong::of_captures());
     if options.plain.len() > 2 {
         options.refuse();
     }
     let seed = options.number(0, SEED);
     let captures = options.number(1, DEFAULT_CAPTURES);
-    options.compare(&[], |other| compare(other, seed, captures))
+    options.compare(&[], |model| compare(model, seed, captures))
 }

@@ -11,7 +11,7 @@ use crate::model::{DATA_READ, DATA_WRITE, INSTRUCTION_WRITE, STATUS_READ};
 use crate::model::{LINE_BYTES, MEMORY, PLAN_BYTES, TRANSFER_BYTES};
 use crate::model::{LONGEST_BUSY, LONG_TIME, SHORT_TIME};
 
-/// A call of any of the six functions.
+/// A call of any of the functions of a `Case`.
 pub fn any_call(chance: &mut Chance) -> Case {
     match chance.below(100) {
         0..=4 => reset(chance),

@@ -10,13 +10,13 @@ mod record;
 mod transfer;
 
 use crate::calls::{Model, MODEL};
+use capture::WRONG_IMPORTERS;
 use dots::WRONG_PAINTERS;
 use lines::{WRONG_READERS, WRONG_WRITERS};
 use plan::WRONG_PLANNERS;
 use record::{WRONG_RECORDS, WRONG_RESETS};
 use transfer::{UNSEEN_STEPS, WRONG_STEPS};
 
-pub use capture::WRONG_IMPORTERS;
 pub use plan::{first_mark_alone, plan_clears};
 
 /// A wrong function in its place, with its name.
@@ -54,4 +54,9 @@ pub fn of_calls() -> Vec<Named> {
         }),
     ]
     .concat()
+}
+
+/// The wrong models that import captures.
+pub fn of_captures() -> Vec<Named> {
+    each(&WRONG_IMPORTERS, |import| Model { import, ..MODEL })
 }

@@ -2,11 +2,12 @@
 
 use std::collections::BTreeMap;
 
+use yaropesk_model::calls::MODEL;
 use yaropesk_model::imports::Import;
 use yaropesk_model::model::*;
 use yaropesk_model::random::{every_damage, sound_capture, Chance, SEED};
 use yaropesk_model::tally::Tally;
-use yaropesk_model::wrong::WRONG_IMPORTERS;
+use yaropesk_model::wrong;
 
 use crate::given::{capture, LETTER};
 
@@ -15,7 +16,7 @@ use crate::given::{capture, LETTER};
 fn sound_captures_are_in_the_subset() {
     for number in 0..2_000 {
         let text = sound_capture(&mut Chance::new(3, number));
-        let answer = Import::with_room(&text).run(import).answer;
+        let answer = Import::with_room(&text).run(&MODEL).answer;
         let shown = text.escape_ascii();
         assert_ne!(answer, OUTSIDE_SUBSET, "{shown}");
         assert_ne!(answer, TOO_SHORT, "{shown}");
@@ -26,7 +27,7 @@ fn sound_captures_are_in_the_subset() {
 fn every_answer_comes_up_often() {
     let mut answers = Tally::default();
     for number in 0..2_000 {
-        answers.count(Import::random(SEED, number).run(import).answer);
+        answers.count(Import::random(SEED, number).run(&MODEL).answer);
     }
     for answer in [
         DONE,
@@ -47,7 +48,7 @@ fn damage_is_answered() {
     let text = capture("", LETTER).into_bytes();
     let mut answers = BTreeMap::new();
     for damaged in every_damage(&text) {
-        let imported = Import::with_room(&damaged).run(import);
+        let imported = Import::with_room(&damaged).run(&MODEL);
         *answers.entry(imported.answer).or_insert(0) += 1;
         assert!(imported.answer == DONE || imported.length == 0);
         assert!(imported.out[imported.length..]
@@ -63,12 +64,10 @@ fn wrong_models_are_found_out() {
     let imports: Vec<Import> = (0..6_000)
         .map(|number| Import::random(SEED, number))
         .collect();
-    let right: Vec<_> = imports.iter().map(|each| each.run(import)).collect();
-    for (name, wrong) in WRONG_IMPORTERS {
+    let right: Vec<_> = imports.iter().map(|each| each.run(&MODEL)).collect();
+    for (name, wrong) in wrong::of_captures() {
         let mut both = imports.iter().zip(&right);
-        assert!(
-            both.any(|(each, right)| each.run(wrong) != *right),
-            "{name}"
-        );
+        let found_out = both.any(|(each, right)| each.run(&wrong) != *right);
+        assert!(found_out, "{name}");
     }
 }
