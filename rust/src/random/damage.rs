@@ -1,5 +1,6 @@
 //! Damage to captures: a byte changed, dropped or doubled, a word or a section dropped or
-//! doubled, the end cut off, or a piece put in that the subset does not have there.
+//! doubled, a word turned round, the end cut off, or a piece put in that the subset does not
+//! have there.
 
 use super::Chance;
 use crate::model::capture::is_blank;
@@ -64,7 +65,7 @@ pub fn damage(chance: &mut Chance, text: &mut Vec<u8>) {
         2 => drop(text.remove(at)),
         3 => text.insert(at, text[at]),
         4 => text.truncate(at),
-        5 => *text = chance.pick(&[word_dropped, word_doubled])(text, at),
+        5 => *text = chance.pick(&WORD_DAMAGES)(text, at),
         6..=7 => section_repeated(chance, text),
         _ => piece_put_in(chance, text),
     }
@@ -82,8 +83,7 @@ pub fn every_damage(text: &[u8]) -> Vec<Vec<u8>> {
         }
         let begins = !is_blank(text[at]) && (at == 0 || is_blank(text[at - 1]));
         if begins {
-            damaged.push(word_dropped(text, at));
-            damaged.push(word_doubled(text, at));
+            damaged.extend(WORD_DAMAGES.map(|damage| damage(text, at)));
         }
     }
     damaged
@@ -117,6 +117,11 @@ fn end_of_word(text: &[u8], at: usize) -> usize {
     at + rest.count()
 }
 
+/// A damage to the word at a place.
+type WordDamage = fn(&[u8], usize) -> Vec<u8>;
+
+const WORD_DAMAGES: [WordDamage; 3] = [word_dropped, word_doubled, word_turned];
+
 fn word_dropped(text: &[u8], at: usize) -> Vec<u8> {
     let (begin, end) = word_at(text, at);
     [&text[..begin], &text[end..]].concat()
@@ -125,6 +130,15 @@ fn word_dropped(text: &[u8], at: usize) -> Vec<u8> {
 fn word_doubled(text: &[u8], at: usize) -> Vec<u8> {
     let (begin, end) = word_at(text, at);
     [&text[..end], b" ", &text[begin..]].concat()
+}
+
+/// All but the word's first byte in the other order: a change keeps its value, and has a
+/// code that is nearly declared.
+fn word_turned(text: &[u8], at: usize) -> Vec<u8> {
+    let (begin, end) = word_at(text, at);
+    let mut turned = text.to_vec();
+    turned[end.min(begin + 1)..end].reverse();
+    turned
 }
 
 /// Where a section or a stamp begins.

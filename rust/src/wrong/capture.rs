@@ -374,6 +374,36 @@ fn codes_differ(_: &[u8], recording: &Recording) -> bool {
     codes.windows(2).any(|two| two[0] == two[1])
 }
 
+/// Each code of a change is declared, or is like one that is.
+fn declares_like(recording: &Recording, like: impl Fn(&[u8], &[u8]) -> bool) -> bool {
+    let codes = recording.variables.iter().map(|variable| variable.code);
+    recording.events.iter().all(|event| match event {
+        Event::Stamp(_) => true,
+        Event::Change(_, changed) => codes.clone().any(|code| like(code, changed)),
+    })
+}
+
+/// A code that another begins with is let pass.
+fn code_begun(recording: &Recording) -> bool {
+    declares_like(recording, |code, changed| {
+        !changed.is_empty() && code.starts_with(changed)
+    })
+}
+
+/// Of a code the first two characters count.
+fn code_cut(recording: &Recording) -> bool {
+    declares_like(recording, |code, changed| {
+        code.iter().take(2).eq(changed.iter().take(2))
+    })
+}
+
+/// A code that is declared the other way round is let pass.
+fn code_turned(recording: &Recording) -> bool {
+    declares_like(recording, |code, changed| {
+        code == changed || code.iter().eq(changed.iter().rev())
+    })
+}
+
 // ---------------------------------------------------------------------------
 // The order of the refusals, and the output
 // ---------------------------------------------------------------------------
@@ -439,7 +469,7 @@ fn output_runs_over(capture: &[u8], out: &mut [u8]) -> (Answer, usize) {
     (answer, length)
 }
 
-pub const WRONG_IMPORTERS: [(&str, Importer); 38] = [
+pub const WRONG_IMPORTERS: [(&str, Importer); 41] = [
     (
         "judged-at-each-change",
         step!(moments, judged_at_each_change),
@@ -480,6 +510,9 @@ pub const WRONG_IMPORTERS: [(&str, Importer); 38] = [
     ("lowest-is-highest", step!(transfers, lowest_is_highest)),
     ("name-twice", step!(declares_once, |_| true)),
     ("undeclared-code", step!(declares_codes, |_| true)),
+    ("code-begun", step!(declares_codes, code_begun)),
+    ("code-cut", step!(declares_codes, code_cut)),
+    ("code-turned", step!(declares_codes, code_turned)),
     ("vector-skipped", of_words!(vector_skipped)),
     ("dump-in-dump", of_words!(dump_in_dump)),
     ("great-stamp", of_words!(great_stamp)),
