@@ -2,12 +2,13 @@
 //! model, in one run.
 //!
 //! ```text
-//! bench PROGRAM MODEL_PROGRAM
+//! bench PROGRAM MODEL_PROGRAM [ROUNDS [CAPTURE_BYTES]]
 //! ```
 //!
 //! Both sides do the same work on the same bytes, in turn; of several rounds the best
 //! of each side counts. The ratio is the library's speed over the model's: 1.00 is
-//! level, above it the library is faster.
+//! level, above it the library is faster. Where no rounds and no bytes of a capture are
+//! named, they are those of docs/BENCH.md.
 
 use std::env;
 use std::fs::{self, File};
@@ -18,13 +19,16 @@ use std::time::{Duration, Instant};
 
 use yaropesk_model::bytes::{record_bytes, wish_bytes, RECORD_BYTES};
 use yaropesk_model::calls::{Calls, MODEL};
+use yaropesk_model::imports::{Import, Imported};
 use yaropesk_model::library::Library;
+use yaropesk_model::model::capture::{E, SIGNALS};
 use yaropesk_model::model::{self, Half, Record, Size, Transfer, Wish};
 use yaropesk_model::model::{DATA_READ, DATA_WRITE, INSTRUCTION_WRITE, STATUS_READ};
 use yaropesk_model::model::{LINE_BYTES, MEMORY, PLAN_BYTES, SESSION_BYTES, TRANSFER_BYTES};
 use yaropesk_model::random::{sound_record, whole_memory, Chance, SEED};
 
 const ROUNDS: usize = 60;
+const CAPTURE_BYTES: usize = 2_000_000;
 
 // ---------------------------------------------------------------------------
 // Time
@@ -36,21 +40,44 @@ fn time(work: impl FnOnce() -> u64) -> (Duration, u64) {
     (start.elapsed(), sum)
 }
 
-/// Runs both sides in turn and prints a line of the table: how many a second each does
-/// in its best round, and the ratio. The sums that they return must be equal, so that
-/// both have done the same.
-fn measure(name: &str, work: usize, ours: impl Fn() -> u64, theirs: impl Fn() -> u64) {
-    let mut best = (Duration::MAX, Duration::MAX);
-    for _ in 0..ROUNDS {
-        let (our_time, our_sum) = time(&ours);
-        let (their_time, their_sum) = time(&theirs);
-        assert_eq!(our_sum, their_sum, "{name}: the two sides differ");
-        best = (best.0.min(our_time), best.1.min(their_time));
+/// A table, each of whose lines is measured in so many rounds.
+struct Table {
+    rounds: usize,
+}
+
+impl Table {
+    /// Prints the first line.
+    fn begin(rounds: usize) -> Table {
+        println!(
+            "{:<42} {:>12} {:>12} {:>6}",
+            "", "ours/s", "Rust/s", "ratio"
+        );
+        Table { rounds }
     }
-    let rate = |took: Duration| work as f64 / took.as_secs_f64();
-    let (ours, theirs) = (rate(best.0), rate(best.1));
-    let ratio = ours / theirs;
-    println!("{name:<42} {ours:>12.0} {theirs:>12.0} {ratio:>6.2}");
+
+    /// Runs both sides in turn and prints a line: how much a second each does in its best
+    /// round, and the ratio. The sums that they return must be equal, so that both have
+    /// done the same.
+    fn measure(&self, name: &str, work: f64, ours: impl Fn() -> u64, theirs: impl Fn() -> u64) {
+        let mut best = (Duration::MAX, Duration::MAX);
+        for _ in 0..self.rounds {
+            let (our_time, our_sum) = time(&ours);
+            let (their_time, their_sum) = time(&theirs);
+            assert_eq!(our_sum, their_sum, "{name}: the two sides differ");
+            best = (best.0.min(our_time), best.1.min(their_time));
+        }
+        let rate = |took: Duration| work / took.as_secs_f64();
+        let (ours, theirs) = (rate(best.0), rate(best.1));
+        let ratio = ours / theirs;
+        let (ours, theirs) = (in_figures(ours), in_figures(theirs));
+        println!("{name:<42} {ours:>12} {theirs:>12} {ratio:>6.2}");
+    }
+}
+
+/// A rate with three figures at least.
+fn in_figures(rate: f64) -> String {
+    let decimals = (2.0 - rate.log10().floor()).max(0.0) as usize;
+    format!("{rate:.decimals$}")
 }
 
 // ---------------------------------------------------------------------------
@@ -141,15 +168,15 @@ fn send_without_bytes(start: Record, transfers: &[Transfer]) -> u64 {
     sum
 }
 
-fn measure_transfers() {
-    let work = TRANSFERS * PASSES;
+fn measure_transfers(table: &Table) {
+    let work = (TRANSFERS * PASSES) as f64;
     for (width, transfers) in [(8, over_eight_wires()), (4, over_four_wires())] {
         let start = start(width);
         let ours = || send(&Library, start, &transfers);
         let name = format!("transfers, {width} bits");
-        measure(&name, work, ours, || send(&MODEL, start, &transfers));
+        table.measure(&name, work, ours, || send(&MODEL, start, &transfers));
         let name = format!("  beside the model without bytes, {width} bits");
-        measure(&name, work, ours, || send_without_bytes(start, &transfers));
+        table.measure(&name, work, ours, || send_without_bytes(start, &transfers));
     }
 }
 
@@ -188,13 +215,13 @@ fn draw(calls: &impl Calls, panels: &[([u8; RECORD_BYTES], Vec<u8>)], size: Size
     sum
 }
 
-fn measure_pictures() {
+fn measure_pictures(table: &Table) {
     let panels = panels();
     for columns in [16, 20] {
         let size = Size::new(columns, 2);
-        measure(
+        table.measure(
             &format!("pictures, {columns} x 2"),
-            PICTURES,
+            PICTURES as f64,
             || draw(&Library, &panels, size),
             || draw(&MODEL, &panels, size),
         );
@@ -215,7 +242,7 @@ fn plan(calls: &impl Calls, wish: &[u8], marks: &[u8]) -> u64 {
     sum
 }
 
-fn measure_plans() {
+fn measure_plans(table: &Table) {
     let wish = wish_bytes(&Wish {
         n: true,
         d: true,
@@ -231,9 +258,9 @@ fn measure_plans() {
         ("plans, two lines of 16 marked", lines),
         ("plans, all 144 marked", [1; MEMORY]),
     ] {
-        measure(
+        table.measure(
             name,
-            PLANS,
+            PLANS as f64,
             || plan(&Library, &wish, &marks),
             || plan(&MODEL, &wish, &marks),
         );
@@ -253,14 +280,88 @@ fn write_and_read(calls: &impl Calls, transfers: &[Transfer]) -> u64 {
     sum
 }
 
-fn measure_lines() {
+fn measure_lines(table: &Table) {
     let transfers: Vec<Transfer> = [over_eight_wires(), over_four_wires()].concat();
-    measure(
+    table.measure(
         "lines, written and read back",
-        transfers.len(),
+        transfers.len() as f64,
         || write_and_read(&Library, &transfers),
         || write_and_read(&MODEL, &transfers),
     );
+}
+
+// ---------------------------------------------------------------------------
+// Captures
+// ---------------------------------------------------------------------------
+
+/// The codes of scalars, shortest first: 94 of one character, then those of two.
+fn code(number: usize) -> String {
+    const CHARACTERS: usize = 94;
+    let character = |number: usize| char::from(b'!' + (number % CHARACTERS) as u8);
+    match number / CHARACTERS {
+        0 => character(number).to_string(),
+        more => [character(more - 1), character(number)].iter().collect(),
+    }
+}
+
+/// The capture with so many other scalars, declared behind the lines, that change as often
+/// as the lines do: in each pulse, before E goes up.
+fn with_others(capture: &[u8], others: usize) -> Vec<u8> {
+    let codes: Vec<String> = (SIGNALS.len()..).map(code).take(others).collect();
+    let rise = format!("1{}\n", code(E)).into_bytes();
+    let mut text = Vec::new();
+    let mut level = 0;
+    for line in capture.split_inclusive(|&byte| byte == b'\n') {
+        if line == b"$upscope $end\n" {
+            let declared = |code| format!("$var wire 1 {code} other{code} $end\n").into_bytes();
+            text.extend(codes.iter().flat_map(declared));
+        }
+        if line == rise {
+            let changed = |code| format!("{level}{code}\n").into_bytes();
+            text.extend(codes.iter().flat_map(changed));
+            level = 1 - level;
+        }
+        text.extend_from_slice(line);
+    }
+    text
+}
+
+/// A capture of at most so many bytes, up to a line's end: the transfers over eight wires,
+/// again and again, and so many other scalars.
+fn capture(bytes: usize, others: usize) -> Vec<u8> {
+    // Stamps and changes have three bytes at least; E changes twice in a pulse.
+    let pulse = 3 * (2 + SIGNALS.len() + 1 + others);
+    let transfers = over_eight_wires().into_iter().cycle();
+    let session: Vec<Transfer> = transfers.take(bytes / pulse + 1).collect();
+    let mut text = with_others(&model::capture_of(&session, 0), others);
+    text.truncate(bytes);
+    let rest = text.iter().rev().take_while(|&&byte| byte != b'\n');
+    text.truncate(text.len() - rest.count());
+    text
+}
+
+fn sum_of(imported: Imported) -> u64 {
+    let bytes = imported.out.iter().map(|&byte| u64::from(byte));
+    bytes.sum::<u64>() + imported.length as u64
+}
+
+fn measure_captures(table: &Table, bytes: usize) {
+    let size = bytes as f64 / 1e6;
+    for (scalars, others) in [("eleven lines", 0), ("2,000 others", 2_000)] {
+        let capture = capture(bytes, others);
+        let imported = Import::with_room(&capture).run(&MODEL);
+        let name = format!("captures of {size} MB, {scalars}, in MB");
+        assert_eq!(imported.answer, model::DONE, "{name}: no whole capture");
+        let work = capture.len() as f64 / 1e6;
+        let room = imported.length;
+        let import = Import { capture, room };
+        table.measure(
+            &name,
+            work,
+            || sum_of(black_box(&import).run(&Library)),
+            || sum_of(black_box(&import).run(&MODEL)),
+        );
+    }
 }
 
 // ---------------------------------------------------------------------------
@@ -298,7 +399,7 @@ fn play(program: &str, text: &Path, report: &Path) -> u64 {
     (0..SESSIONS).map(|_| run().unwrap_or_else(failed)).sum()
 }
 
-fn measure_sessions(program: &str, model_program: &str) {
+fn measure_sessions(table: &Table, program: &str, model_program: &str) {
     let folder = PathBuf::from(env!("CARGO_MANIFEST_DIR")).join("target");
     let text = folder.join("bench.session");
     let reports = [
@@ -306,9 +407,9 @@ fn measure_sessions(program: &str, model_program: &str) {
         folder.join("bench_model.report"),
     ];
     fs::write(&text, session_text()).expect("the text can be written");
-    measure(
+    table.measure(
         "session programs, 65,536 bytes",
-        SESSIONS,
+        SESSIONS as f64,
         || play(program, &text, &reports[0]),
         || play(model_program, &text, &reports[1]),
     );
@@ -316,19 +417,36 @@ fn measure_sessions(program: &str, model_program: &str) {
     assert!(ours == theirs, "the two session programs differ");
 }
 
+/// Says how the program is called, and ends it.
+fn refuse() -> ! {
+    eprintln!("bench PROGRAM MODEL_PROGRAM [ROUNDS [CAPTURE_BYTES]]");
+    exit(2)
+}
+
+/// A number above 0 of the command line, or the usual one.
+fn number(named: Option<&String>, usual: usize) -> usize {
+    let number = named.map_or(Ok(usual), |text| text.parse());
+    number
+        .ok()
+        .filter(|&number| number > 0)
+        .unwrap_or_else(|| refuse())
+}
+
 fn main() {
     let arguments: Vec<String> = env::args().skip(1).collect();
-    let [program, model_program] = &arguments[..] else {
-        eprintln!("bench PROGRAM MODEL_PROGRAM");
-        exit(2);
+    let [program, model_program, numbers @ ..] = &arguments[..] else {
+        refuse()
     };
-    println!(
-        "{:<42} {:>12} {:>12} {:>6}",
-        "", "ours/s", "Rust/s", "ratio"
-    );
-    measure_transfers();
-    measure_pictures();
-    measure_plans();
-    measure_lines();
-    measure_sessions(program, model_program);
+    if numbers.len() > 2 {
+        refuse();
+    }
+    let rounds = number(numbers.first(), ROUNDS);
+    let capture_bytes = number(numbers.get(1), CAPTURE_BYTES);
+    let table = Table::begin(rounds);
+    measure_transfers(&table);
+    measure_pictures(&table);
+    measure_plans(&table);
+    measure_lines(&table);
+    measure_captures(&table, capture_bytes);
+    measure_sessions(&table, program, model_program);
 }
