@@ -1,6 +1,7 @@
 pub mod Words
 pub mod Form
 pub mod Definitions
+pub mod Over
 pub mod Falls
 pub mod Tally
 pub mod Session

@@ -13,7 +13,7 @@ use Rattle.captures.specs.declared.definitions.Codes.{Codes}
 use Rattle.captures.specs.declared.definitions.Head as places
 use Rattle.captures.specs.declared.scan.Scan.{Scan}
 use Rattle.captures.specs.Words.{Word, words}
-use Rattle.captures.specs.Definitions.{Head}
+use Rattle.captures.specs.Definitions.{Head, blankHead, definedBy}
 use Rattle.captures.specs.Falls.{Fall, blankScan, scannedBy, fallsFrom}
 use Rattle.captures.specs.Import.{kindOf, byteOf, waitFrom, unknownAt}
 
@@ -46,6 +46,11 @@ headIn text head =
       codes = spansOf text (head .codes);
       twice = head .twice;
     }
+
+-- The definitions of a text, read as far as they go: the codes, and whether a needed signal was declared twice.
+pub record HeadRead (text : List ℕ) (head : places.Head) : Type 0 where
+  pub codes : spansOf text (head .codes) ≡ definedBy blankHead (words text) .codes
+  pub twice : head .twice ≡ definedBy blankHead (words text) .twice
 
 -- With these levels.
 abbrev pub withLevels : Scan → List ℕ → Scan

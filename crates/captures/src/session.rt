@@ -6,12 +6,12 @@ ghost use Prim.Native.Nat.{ℕ, _<_};
 ghost use Rattle.lines.specs.Writing.{refusing, writtenOf};
 ghost use Rattle.captures.specs.Words.{words};
 ghost use Rattle.captures.specs.Form.{isWhole};
-ghost use Rattle.captures.specs.Definitions.{blankHead, definedBy, lacksCode};
+ghost use Rattle.captures.specs.Definitions.{blankHead, lacksCode};
 ghost use Rattle.captures.specs.Falls.{blankScan, fallsFrom, scannedBy};
 ghost use Rattle.captures.specs.Falls.{ends as endsAt};
 ghost use Rattle.captures.specs.Import.{judged};
 ghost use Rattle.captures.specs.Promises.{ImportPromise};
-ghost use Rattle.captures.specs.Walk.{Walked, headIn, noTally, spansOf};
+ghost use Rattle.captures.specs.Walk.{HeadRead, Walked, headIn, noTally, spansOf};
 use crate::definitions::Codes;
 use crate::definitions::Head;
 use crate::definitions::code_at;
@@ -109,13 +109,17 @@ fn blank_head() -> Head
     }
 }
 
-// Reads the definitions of a capture.
+// Reads the definitions of a capture, up to their end.
 fn read_head(text: &[u8]) -> Head
-    ensures { λ r. ⌜ headIn (now (text .entry)) r ≡ definedBy blankHead (words (now (text .entry))) ⌝ }
+    ensures { λ r. ⌜ HeadRead (now (text .entry)) r ⌝ }
 {
     let mut head = blank_head();
     let mut from = 0;
     while from < text.len() {
+        let phase = head.phase;
+        if 3 <= asks(phase) {
+            return head;
+        }
         let end = word_end(text, from);
         head = define(text, head, from, end);
         from = end + 1;

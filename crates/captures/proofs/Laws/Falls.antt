@@ -1,22 +1,19 @@
 -- Laws of the walk over a capture: declared codes and changed levels, from what is left.
 -- Assumes nothing.
-use mathlib.Core.Bool.{Bool, true, false, cond, not, _&&_, _||_, false≢true}
+use mathlib.Core.Bool.{Bool, true, false, cond, not, _&&_, _||_}
 use mathlib.Core.List.{List, [], _∷_, _++_, append-assoc}
 use mathlib.Core.Path.{_≡_, refl, sym, ap, _∙_}
 use Prim.Native.Nat.{ℕ, zero, suc, _+_, _<_, _≤_}
 use native.Mathlib.Numerals.{add-one}
 use native.Mathlib.Omega.{arith}
 use borrow.Author.Tests.{lt-ltb, le-ltb, le-leb, lt-leb}
-use lib.Dec.{ltb, leb}
-use Rattle.controller.proofs.Laws.Choice.{cond-elim}
 use lib.ListN.{length, getD, set, take, drop}
 use Rattle.captures.specs.declared.form.Phase.{Phase}
-use Rattle.captures.specs.declared.form.Phase.the-variants.{Section, Scale, ScaleUnit, ScopeKind, ScopeName, VarType, VarSize, VarCode, VarName, Close, Ending, Changes, Dump, Wrong}
 use Rattle.captures.specs.declared.scan.Scan.{Scan}
-use Rattle.lines.specs.Text.{bytesOf}
-use Rattle.captures.specs.Words.{Word, isEmpty, isPlain, same}
-use Rattle.captures.specs.Form.{asked, codeComes, after, changing, past, stampOf, levelSet}
+use Rattle.captures.specs.Words.{Word, same}
+use Rattle.captures.specs.Form.{asked, codeComes, past, stampOf, levelSet}
 use Rattle.captures.specs.Definitions.{declares}
+use Rattle.captures.proofs.Laws.Over.{over, over-asked, over-past}
 use Rattle.captures.specs.Falls.{changed, stamped, altered, inPhase, moved, scanned}
 
 -- the first of the words that are left declares the code
@@ -75,79 +72,6 @@ module _ (all codes : List Word) (scan : Scan) (w : Word) (next : Scan) (goes : 
 -- the second of two tests, where the first is false
 pub or-later : (a b c : Bool) → a ≡ false → c ≡ b → c ≡ a || b
 or-later a b c none is = is ∙ sym (ap (λ (t : Bool). t || b) none)
-
--- the definitions are over, for good
-unfoldable pub over : Phase → Bool
-over (Section scaled) = false
-over Scale = false
-over ScaleUnit = false
-over (ScopeKind scaled) = false
-over (ScopeName scaled) = false
-over (VarType scaled) = false
-over (VarSize scaled) = false
-over (VarCode scaled) = false
-over (VarName scaled) = false
-over (Close scaled) = false
-over Ending = false
-over Changes = true
-over Dump = true
-over Wrong = true
-
-pub over-asked : (phase : Phase) → 3 ≤ asked phase → over phase ≡ true
-unfolding over
-over-asked (Section scaled) late = absurd (omega arith)
-over-asked Scale late = absurd (omega arith)
-over-asked ScaleUnit late = absurd (omega arith)
-over-asked (ScopeKind scaled) late = absurd (omega arith)
-over-asked (ScopeName scaled) late = absurd (omega arith)
-over-asked (VarType scaled) late = absurd (omega arith)
-over-asked (VarSize scaled) late = absurd (omega arith)
-over-asked (VarCode scaled) late = absurd (omega arith)
-over-asked (VarName scaled) late = absurd (omega arith)
-over-asked (Close scaled) late = absurd (omega arith)
-over-asked Ending late = absurd (omega arith)
-over-asked Changes late = refl
-over-asked Dump late = refl
-over-asked Wrong late = absurd (omega arith)
-
-over-changing : (w : Word) (stamps : Bool) (next : Phase) → over next ≡ true → over (changing w stamps next) ≡ true
-unfolding changing over
-over-changing w stamps next is =
-    cond-elim (λ (p : Phase). over p ≡ true) (ltb (levelSet w) 3) _ _ (λ _. is)
-    (λ _. cond-elim (λ (p : Phase). over p ≡ true) (leb (stampOf w) 4294967295) _ _
-    (λ _. cond-elim (λ (p : Phase). over p ≡ true) stamps _ _ (λ _. is) (λ _. refl)) (λ _. refl))
-
--- no word leads back into the definitions, and no code comes there
-pub over-past : (phase : Phase) (w : Word) → over phase ≡ true → (over (past phase w) ≡ true) × (codeComes phase ≡ false)
-unfolding past after over
-over-past Changes w is = (
-  cond-elim (λ (p : Phase). over p ≡ true) (isEmpty w) _ _ (λ _. refl)
-      (λ _. cond-elim (λ (p : Phase). over p ≡ true) (isPlain w) _ _
-      (λ _. cond-elim (λ (p : Phase). over p ≡ true) (same w (bytesOf "$dumpvars")) _ _ (λ _. refl) (λ _. over-changing w true Changes refl)) (λ _. refl)),
-  refl,
-)
-over-past Dump w is = (
-  cond-elim (λ (p : Phase). over p ≡ true) (isEmpty w) _ _ (λ _. refl)
-      (λ _. cond-elim (λ (p : Phase). over p ≡ true) (isPlain w) _ _
-      (λ _. cond-elim (λ (p : Phase). over p ≡ true) (same w (bytesOf "$end")) _ _ (λ _. refl) (λ _. over-changing w false Dump refl)) (λ _. refl)),
-  refl,
-)
-over-past Wrong w is = (
-  cond-elim (λ (p : Phase). over p ≡ true) (isEmpty w) _ _ (λ _. refl)
-      (λ _. cond-elim (λ (p : Phase). over p ≡ true) (isPlain w) _ _ (λ _. refl) (λ _. refl)),
-  refl,
-)
-over-past (Section scaled) w is = absurd (false≢true is)
-over-past Scale w is = absurd (false≢true is)
-over-past ScaleUnit w is = absurd (false≢true is)
-over-past (ScopeKind scaled) w is = absurd (false≢true is)
-over-past (ScopeName scaled) w is = absurd (false≢true is)
-over-past (VarType scaled) w is = absurd (false≢true is)
-over-past (VarSize scaled) w is = absurd (false≢true is)
-over-past (VarCode scaled) w is = absurd (false≢true is)
-over-past (VarName scaled) w is = absurd (false≢true is)
-over-past (Close scaled) w is = absurd (false≢true is)
-over-past Ending w is = absurd (false≢true is)
 
 pub declares-never : (phase : Phase) (ws : List Word) (code : Word) → over phase ≡ true → declares phase ws code ≡ false
 unfolding declares

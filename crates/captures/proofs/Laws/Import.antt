@@ -23,10 +23,10 @@ use Rattle.captures.specs.declared.falls.Tally.{Tally}
 use Rattle.captures.specs.declared.scan.Scan.{Scan}
 use Rattle.captures.specs.Words.{Word, words}
 use Rattle.captures.specs.Form.{isWhole}
-use Rattle.captures.specs.Definitions.{Head, lacksCode}
+use Rattle.captures.specs.Definitions.{lacksCode}
 use Rattle.captures.specs.Falls.{Fall, blankScan, scannedBy, fallsFrom}
 use Rattle.captures.specs.Import.{kindOf, byteOf, waitFrom, sentFrom, sentBy, unknownAt, unknownIn, headOf, scanOf, fallsOf, inSubset, isMissing, sessionText, judged, judgementOf, importing}
-use Rattle.captures.specs.Walk.{lineAt, longer, counted, Told, told, tellingOne, telling, noTally, spansOf, headIn, Walked}
+use Rattle.captures.specs.Walk.{lineAt, longer, counted, Told, told, tellingOne, telling, noTally, spansOf, HeadRead, Walked}
 
 or-none : (a : Bool) → a ≡ a || false
 or-none true = refl
@@ -102,9 +102,9 @@ put-all t (f ∷ fs) fits small =
     ∙ sets-append (t .out) (t .tally .length) own rest
 
 -- from here on: a capture, its definitions as they were read, and what the first walk saw and counted
-module _ (capture : List ℕ) (head : places.Head) (defs : headIn capture head ≡ headOf capture) where
+module _ (capture : List ℕ) (head : places.Head) (defs : HeadRead capture head) where
   codes-are : spansOf capture (head .codes) ≡ headOf capture .codes
-  codes-are = ap (λ (h : Head). h .codes) defs
+  codes-are = defs .codes
 
   module _ (out after : List ℕ) (scan : Scan) (tally : Tally) (walked : Walked capture (spansOf capture (head .codes)) out scan tally after) where
     pub scan-is : scan ≡ scanOf capture
@@ -120,7 +120,7 @@ module _ (capture : List ℕ) (head : places.Head) (defs : headIn capture head �
     unfolding inSubset
     inside-is inside is =
         is ∙ ap (λ (s : Scan). isWhole (s .phase) && (not (head .twice) && not (s .strange))) scan-is
-        ∙ ap (λ (h : Head). isWhole (scanOf capture .phase) && (not (h .twice) && not (scanOf capture .strange))) defs
+        ∙ ap (λ (b : Bool). isWhole (scanOf capture .phase) && (not b && not (scanOf capture .strange))) (defs .twice)
 
     pub length-is : Measured (tally .length) (length (sessionText capture))
     unfolding sessionText
@@ -144,7 +144,7 @@ module _ (capture : List ℕ) (head : places.Head) (defs : headIn capture head �
   missing-is missing is = is ∙ ap (lacksCode 11) codes-are
 
 -- what is judged, from all that was read
-pub judged-is : (capture : List ℕ) (head : places.Head) → headIn capture head ≡ headOf capture → (out after : List ℕ) (scan : Scan) (tally : Tally)
+pub judged-is : (capture : List ℕ) (head : places.Head) → HeadRead capture head → (out after : List ℕ) (scan : Scan) (tally : Tally)
     → Walked capture (spansOf capture (head .codes)) out scan tally after → (inside missing : Bool) (answer : Answer)
     → inside ≡ isWhole (scan .phase) && (not (head .twice) && not (scan .strange)) → missing ≡ lacksCode 11 (spansOf capture (head .codes))
     → answer ≡ judged inside missing (tally .unknown) → answer ≡ judgementOf capture

@@ -10,6 +10,8 @@ use lib.ListN.{length, getD}
 use Rattle.captures.specs.declared.falls.Tally.{Tally}
 use Rattle.captures.specs.declared.scan.Scan.{Scan}
 use Rattle.captures.specs.Words.{Word, isEmpty}
+use Rattle.captures.specs.Form.{codeComes, nameComes, past}
+use Rattle.captures.proofs.Laws.Over.{over, over-past}
 use Rattle.captures.specs.Definitions.{Head, defined, definedBy, lacksCode}
 use Rattle.captures.specs.Falls.{Fall, ends, falls, fallAt, fallsFrom, scanned, scannedBy}
 use Rattle.captures.specs.Walk.{Told, told, tellingOne, telling}
@@ -22,6 +24,25 @@ defined-step h next left w ws is goes = ap (λ (x : Head). definedBy x ws) goes 
 pub defined-end : (h : Head) (left : List Word) → left ≡ [] → h ≡ definedBy h left
 unfolding definedBy
 defined-end h left is = sym (ap (definedBy h) is)
+
+-- behind the definitions' end nothing more is defined
+defined-keeps : (h : Head) (w : Word) → codeComes (h .phase) ≡ false → nameComes (h .phase) ≡ false
+    → (defined h w .codes ≡ h .codes) × (defined h w .twice ≡ h .twice) × (defined h w .phase ≡ past (h .phase) w)
+unfolding defined past
+defined-keeps h w not-code nor = go (isEmpty w) refl
+  where
+    go : (b : Bool) → isEmpty w ≡ b → (defined h w .codes ≡ h .codes) × (defined h w .twice ≡ h .twice) × (defined h w .phase ≡ past (h .phase) w)
+    go true is = (simp is, simp is, simp is)
+    go false is = (simp (is, not-code, nor), simp (is, not-code, nor), simp (is, not-code, nor))
+
+pub defined-over : (h : Head) (ws : List Word) → over (h .phase) ≡ true → (h .codes ≡ definedBy h ws .codes) × (h .twice ≡ definedBy h ws .twice)
+unfolding definedBy
+defined-over h [] is = (refl, refl)
+defined-over h (w ∷ ws) is =
+    let kept = over-past (h .phase) w is in
+    let same = defined-keeps h w (kept .1) (kept .2) in
+    let rest = defined-over (defined h w) ws (ap over (same .2) ∙ kept .0) in
+    (sym (same .0) ∙ rest .0, sym (same .1) ∙ rest .1)
 
 pub telling-append : (t : Told) (xs ys : List Fall) → telling t (xs ++ ys) ≡ telling (telling t xs) ys
 unfolding telling
