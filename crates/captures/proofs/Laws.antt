@@ -2,6 +2,8 @@ pub mod Words
 pub mod Form
 pub mod Definitions
 pub mod Over
+pub mod Table
+pub mod Told
 pub mod Falls
 pub mod Tally
 pub mod Session

@@ -4,6 +4,7 @@ pub mod Definitions
 pub mod Falls
 pub mod Import
 pub mod Walk
+pub mod Table
 pub mod Promises
 pub mod Made
 pub mod Unheeded

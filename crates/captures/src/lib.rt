@@ -4,6 +4,7 @@ mod falls;
 mod form;
 mod scan;
 mod session;
+mod table;
 mod words;
 
 pub use session::import;

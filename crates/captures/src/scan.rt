@@ -1,14 +1,14 @@
 // The lines as they stand, stamp by stamp.
 ghost use mathlib.Core.Path.{_≡_};
 ghost use mathlib.Core.Bool.{cond, false, not, _&&_, _||_};
-ghost use Prim.Native.Nat.{_≤_, _<_};
-ghost use lib.ListN.{drop};
+ghost use Prim.Native.Nat.{_<_};
 ghost use Rattle.captures.specs.Words.{words};
 ghost use Rattle.captures.specs.Words.{same as sameWord};
 ghost use Rattle.captures.specs.Form.{codeComes};
 ghost use Rattle.captures.specs.Definitions.{declares};
 ghost use Rattle.captures.specs.Falls.{altered, changed, endsStamp, inPhase, scanned, stamped};
-ghost use Rattle.captures.specs.Walk.{span, spansOf, withLevels};
+ghost use Rattle.captures.specs.Walk.{spansOf, withLevels};
+ghost use Rattle.captures.specs.Table.{Sound, lineSet};
 ghost use Rattle.captures.specs.declared.form.Phase.the-variants as Phase;
 use crate::definitions::Codes;
 use crate::definitions::code_at;
@@ -17,6 +17,7 @@ use crate::form::asks;
 use crate::form::level_set;
 use crate::form::pass;
 use crate::form::stamp_of;
+use crate::table::entry_of;
 use crate::words::part;
 use crate::words::same;
 use crate::words::word_end;
@@ -138,27 +139,47 @@ fn move_on(scan: Scan, next: Phase) -> Scan
 }
 
 // After a change of the code that stands from here to there: a code that is not declared is noted.
-fn alter(text: &[u8], codes: Codes, scan: Scan, code: &[u8], level: u8) -> Scan
+fn alter(text: &[u8], codes: Codes, table: &[u8], scan: Scan, code: &[u8], level: u8) -> Scan
+    requires { ⌜ Sound (now table) (words (now text)) ⌝ }
     ensures { λ r. ⌜ r
         ≡ altered (words (now (text .entry))) (spansOf (now (text .entry)) codes) scan (now (code .entry)) level ⌝ }
 {
-    let strange = is_strange(scan.strange, is_declared(text, code));
+    let strange = is_strange(text, table, scan.strange, code);
     let mut next = set_levels(text, codes, code, level, scan);
     next.strange = strange;
     next
 }
 
-fn is_strange(strange: bool, declared: bool) -> bool
-    ensures { λ r. ⌜ r ≡ strange || not declared ⌝ }
+// Whether some changed code is not declared, with this one more: looked up in the text where the table does not know it.
+fn is_strange(text: &[u8], table: &[u8], strange: bool, code: &[u8]) -> bool
+    requires { ⌜ Sound (now table) (words (now text)) ⌝ }
+    ensures { λ r. ⌜ r ≡ strange || not (declares (Phase.Section false) (words (now (text .entry))) (now (code .entry))) ⌝ }
 {
     if strange {
         return true;
     }
-    !declared
+    if entry_of(table, code) != 12 {
+        return false;
+    }
+    !is_declared(text, code)
+}
+
+// The one line that a word sets, where the table has it: 11 where it sets none, 12 and more where the table does not tell.
+pub fn line_set(table: &[u8], phase: Phase, word: &[u8]) -> usize
+    ensures { λ r. ⌜ r ≡ lineSet (now (table .entry)) phase (now (word .entry)) ⌝ }
+{
+    if asks(phase) < 3 {
+        return 12;
+    }
+    if 3 <= level_set(word) {
+        return 12;
+    }
+    entry_of(table, part(word, 1, word.len())) as usize
 }
 
 // The capture with a word more.
-pub fn scan_word(text: &[u8], codes: Codes, scan: Scan, word: &[u8]) -> Scan
+pub fn scan_word(text: &[u8], codes: Codes, table: &[u8], scan: Scan, word: &[u8]) -> Scan
+    requires { ⌜ Sound (now table) (words (now text)) ⌝ }
     ensures { λ r. ⌜ r ≡ scanned (words (now (text .entry))) (spansOf (now (text .entry)) codes) scan (now (word .entry)) ⌝ }
 {
     let phase = scan.phase;
@@ -172,7 +193,7 @@ pub fn scan_word(text: &[u8], codes: Codes, scan: Scan, word: &[u8]) -> Scan
     }
     let level = level_set(word);
     if level < 3 {
-        return alter(text, codes, moved, part(word, 1, word.len()), level);
+        return alter(text, codes, table, moved, part(word, 1, word.len()), level);
     }
     moved
 }

@@ -1,16 +1,17 @@
 // A capture as a session's text: read once to judge and measure it, and once more to write.
 ghost use mathlib.Core.Path.{_≡_};
 ghost use mathlib.Core.Bool.{not, _&&_};
-ghost use mathlib.Core.List.{List};
+ghost use mathlib.Core.List.{List, []};
 ghost use Prim.Native.Nat.{ℕ, _<_};
 ghost use Rattle.lines.specs.Writing.{refusing, writtenOf};
 ghost use Rattle.captures.specs.Words.{words};
 ghost use Rattle.captures.specs.Form.{isWhole};
 ghost use Rattle.captures.specs.Definitions.{blankHead, lacksCode};
-ghost use Rattle.captures.specs.Falls.{blankScan, fallsFrom, scannedBy};
+ghost use Rattle.captures.specs.Falls.{blankScan};
 ghost use Rattle.captures.specs.Falls.{ends as endsAt};
 ghost use Rattle.captures.specs.Import.{judged};
 ghost use Rattle.captures.specs.Promises.{ImportPromise};
+ghost use Rattle.captures.specs.Table.{Tabled};
 ghost use Rattle.captures.specs.Walk.{HeadRead, Walked, headIn, noTally, spansOf};
 use crate::definitions::Codes;
 use crate::definitions::Head;
@@ -20,10 +21,15 @@ use crate::falls::Tally;
 use crate::falls::tell_end;
 use crate::form::Phase;
 use crate::form::asks;
+use crate::form::level_set;
 use crate::form::stamp_of;
 use crate::scan::Scan;
 use crate::scan::ends_stamp;
+use crate::scan::line_set;
 use crate::scan::scan_word;
+use crate::table::SHORT_CODES;
+use crate::table::note;
+use crate::table::serve_lines;
 use crate::words::part;
 use crate::words::word_end;
 use controller::Answer;
@@ -75,8 +81,10 @@ fn ends(scan: Scan, word: &[u8]) -> bool
     ends_stamp(scan, stamp as u32)
 }
 
-// Reads a capture and tells its falls: what fits of their lines is put into the buffer.
-fn walk(text: &[u8], codes: Codes, out: &mut [u8]) -> Ended
+// Reads a capture and tells its falls: what fits of their lines is put into the buffer. Most words are changes of short codes,
+// which set one line or none.
+fn walk(text: &[u8], codes: Codes, table: &[u8], out: &mut [u8]) -> Ended
+    requires { ⌜ Tabled (now table) (words (now text)) (spansOf (now text) codes) 11 ⌝ }
     ensures { λ r. ⌜ Walked (now (text .entry)) (spansOf (now (text .entry)) codes) (now (out .entry))
         (r .scan) (r .tally) (now (out .exit)) ⌝ }
 {
@@ -86,9 +94,18 @@ fn walk(text: &[u8], codes: Codes, out: &mut [u8]) -> Ended
     while from < text.len() {
         let end = word_end(text, from);
         let word = part(text, from, end);
-        tally = tell_end(ends(scan, word), scan, tally, out);
-        scan = scan_word(text, codes, scan, word);
         from = end + 1;
+        let phase = scan.phase;
+        let line = line_set(table, phase, word);
+        if line < 11 {
+            scan.levels[line] = level_set(word);
+            continue;
+        }
+        if line == 11 {
+            continue;
+        }
+        tally = tell_end(ends(scan, word), scan, tally, out);
+        scan = scan_word(text, codes, table, scan, word);
     }
     tally = tell_end(true, scan, tally, out);
     Ended { scan, tally }
@@ -109,9 +126,10 @@ fn blank_head() -> Head
     }
 }
 
-// Reads the definitions of a capture, up to their end.
-fn read_head(text: &[u8]) -> Head
-    ensures { λ r. ⌜ HeadRead (now (text .entry)) r ⌝ }
+// Reads the definitions of a capture, up to their end, and notes the codes that they declare.
+fn read_head(text: &[u8], table: &mut [u8]) -> Head
+    requires { ⌜ Tabled (now table) (words (now text)) [] 0 ⌝ }
+    ensures { λ r. ⌜ HeadRead (now (text .entry)) r × Tabled (now (table .exit)) (words (now (text .entry))) [] 0 ⌝ }
 {
     let mut head = blank_head();
     let mut from = 0;
@@ -121,6 +139,7 @@ fn read_head(text: &[u8]) -> Head
             return head;
         }
         let end = word_end(text, from);
+        note(phase, part(text, from, end), table);
         head = define(text, head, from, end);
         from = end + 1;
     }
@@ -180,9 +199,11 @@ fn refuse(answer: Answer) -> Written
 pub fn import(capture: &[u8], out: &mut [u8]) -> Written
     ensures { λ r. ⌜ ImportPromise (now (capture .entry)) (now (out .entry)) r (now (out .exit)) ⌝ }
 {
-    let head = read_head(capture);
+    let mut table = [12u8; SHORT_CODES];
+    let head = read_head(capture, &mut table);
     let codes = head.codes;
-    let seen = walk(capture, codes, &mut []);
+    serve_lines(capture, codes, &mut table);
+    let seen = walk(capture, codes, &table, &mut []);
     let scan = seen.scan;
     let phase = scan.phase;
     let inside = is_inside(phase, head.twice, scan.strange);
@@ -193,7 +214,7 @@ pub fn import(capture: &[u8], out: &mut [u8]) -> Written
     if out.len() < seen.tally.length {
         return refuse(Answer::OutputShort);
     }
-    walk(capture, codes, out);
+    walk(capture, codes, &table, out);
     Written {
         answer: Answer::Done,
         length: seen.tally.length,

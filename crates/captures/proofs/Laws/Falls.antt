@@ -1,13 +1,12 @@
 -- Laws of the walk over a capture: declared codes and changed levels, from what is left.
 -- Assumes nothing.
-use mathlib.Core.Bool.{Bool, true, false, cond, not, _&&_, _||_}
-use mathlib.Core.List.{List, [], _∷_, _++_, append-assoc}
+use mathlib.Core.Bool.{Bool, true, false, cond, _&&_, _||_}
+use mathlib.Core.List.{List, [], _∷_}
 use mathlib.Core.Path.{_≡_, refl, sym, ap, _∙_}
-use Prim.Native.Nat.{ℕ, zero, suc, _+_, _<_, _≤_}
+use Prim.Native.Nat.{ℕ, _+_, _<_, _≤_}
 use native.Mathlib.Numerals.{add-one}
-use native.Mathlib.Omega.{arith}
 use borrow.Author.Tests.{lt-ltb, le-ltb, le-leb, lt-leb}
-use lib.ListN.{length, getD, set, take, drop}
+use lib.ListN.{getD, set, drop}
 use Rattle.captures.specs.declared.form.Phase.{Phase}
 use Rattle.captures.specs.declared.scan.Scan.{Scan}
 use Rattle.captures.specs.Words.{Word, same}
@@ -15,6 +14,10 @@ use Rattle.captures.specs.Form.{asked, codeComes, past, stampOf, levelSe
 use Rattle.captures.specs.Definitions.{declares}
 use Rattle.captures.proofs.Laws.Over.{over, over-asked, over-past}
 use Rattle.captures.specs.Falls.{changed, stamped, altered, inPhase, moved, scanned}
+
+or-true : (a : Bool) → a || true ≡ true
+or-true true = refl
+or-true false = refl
 
 -- the first of the words that are left declares the code
 pub declares-here : (phase : Phase) (all : List Word) (v w : Word) (ws : List Word) (code : Word) → all ≡ w ∷ ws → v ≡ w
@@ -30,6 +33,15 @@ unfolding declares
 declares-next phase next all v w ws code left is here goes =
     sym (ap (λ (l : List Word). declares phase l code) left
     ∙ simp (ap (λ (u : Word). codeComes phase && same u code) (sym is) ∙ here, sym (goes ∙ ap (past phase) is)))
+
+-- what those behind the first word declare is declared
+pub declares-later : (phase next : Phase) (all : List Word) (w : Word) (ws : List Word) (code : Word) → all ≡ w ∷ ws → next ≡ past phase w
+    → declares next ws code ≡ true → declares phase all code ≡ true
+unfolding declares
+declares-later phase next all w ws code left goes later =
+    ap (λ (l : List Word). declares phase l code) left
+    ∙ ap (λ (b : Bool). (codeComes phase && same w code) || b) (ap (λ (p : Phase). declares p ws code) (sym goes) ∙ later)
+    ∙ or-true (codeComes phase && same w code)
 
 pub declares-none : (phase : Phase) (all : List Word) (code : Word) → all ≡ [] → false ≡ declares phase all code
 unfolding declares
@@ -68,6 +80,10 @@ module _ (all codes : List Word) (scan : Scan) (w : Word) (next : Scan) (goes : 
   unfolding scanned moved
   scan-rest late none other =
       goes ∙ simp (le-leb 3 (asked (scan .phase)) late, lt-leb (stampOf w) 4294967295 none, le-ltb (levelSet w) 3 other)
+
+pub or-none : (a : Bool) → a ≡ a || false
+or-none true = refl
+or-none false = refl
 
 -- the second of two tests, where the first is false
 pub or-later : (a b c : Bool) → a ≡ false → c ≡ b → c ≡ a || b

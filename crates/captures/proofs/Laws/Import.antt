@@ -26,11 +26,8 @@ use Rattle.captures.specs.Form.{isWhole}
 use Rattle.captures.specs.Definitions.{lacksCode}
 use Rattle.captures.specs.Falls.{Fall, blankScan, scannedBy, fallsFrom}
 use Rattle.captures.specs.Import.{kindOf, byteOf, waitFrom, sentFrom, sentBy, unknownAt, unknownIn, headOf, scanOf, fallsOf, inSubset, isMissing, sessionText, judged, judgementOf, importing}
+use Rattle.captures.proofs.Laws.Falls.{or-none}
 use Rattle.captures.specs.Walk.{lineAt, longer, counted, Told, told, tellingOne, telling, noTally, spansOf, HeadRead, Walked}
-
-or-none : (a : Bool) → a ≡ a || false
-or-none true = refl
-or-none false = refl
 
 or-assoc : (a b c : Bool) → (a || b) || c ≡ a || (b || c)
 or-assoc true b c = refl

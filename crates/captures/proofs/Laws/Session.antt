@@ -1,20 +1,22 @@
 -- Laws of the walk over a whole capture: what is left comes to the same.
 -- Assumes nothing.
-use mathlib.Core.Bool.{Bool, true, false, cond, not, _&&_, _||_}
-use mathlib.Core.List.{List, [], _∷_, _++_, append-assoc}
+use mathlib.Core.Bool.{Bool, true, false, _&&_, _||_}
+use mathlib.Core.List.{List, [], _∷_, _++_}
 use mathlib.Core.Path.{_≡_, refl, sym, ap, _∙_}
 use Prim.Native.Nat.{ℕ, zero, suc, _+_, _-_, _<_, _≤_}
 use native.Mathlib.Omega.{arith}
 use borrow.Author.Tests.{eq-eqb, ne-eqb}
+use lib.Dec.{ltb}
 use lib.ListN.{length, getD}
-use Rattle.captures.specs.declared.falls.Tally.{Tally}
+use Rattle.controller.proofs.Laws.Choice.{cond-elim}
+use Rattle.captures.specs.declared.form.Phase.{Phase}
 use Rattle.captures.specs.declared.scan.Scan.{Scan}
-use Rattle.captures.specs.Words.{Word, isEmpty}
+use Rattle.captures.specs.Words.{Word, isEmpty, placeIn}
 use Rattle.captures.specs.Form.{codeComes, nameComes, past}
 use Rattle.captures.proofs.Laws.Over.{over, over-past}
-use Rattle.captures.specs.Definitions.{Head, defined, definedBy, lacksCode}
+use Rattle.captures.specs.Definitions.{Head, names, placed, named, defined, definedBy, lacksCode}
 use Rattle.captures.specs.Falls.{Fall, ends, falls, fallAt, fallsFrom, scanned, scannedBy}
-use Rattle.captures.specs.Walk.{Told, told, tellingOne, telling}
+use Rattle.captures.specs.Walk.{Told, tellingOne, telling}
 
 -- a word more of the definitions
 pub defined-step : (h next : Head) (left : List Word) (w : Word) (ws : List Word) → left ≡ w ∷ ws → next ≡ defined h w → definedBy next ws ≡ definedBy h left
@@ -25,15 +27,30 @@ pub defined-end : (h : Head) (left : List Word) → left ≡ [] → h ≡ define
 unfolding definedBy
 defined-end h left is = sym (ap (definedBy h) is)
 
+past-empty : (phase : Phase) (w : Word) → isEmpty w ≡ true → phase ≡ past phase w
+unfolding past
+past-empty phase w none = simp none
+
+-- a word more of the definitions leads to the phase after it
+pub defined-phase : (h : Head) (w : Word) → defined h w .phase ≡ past (h .phase) w
+unfolding defined named placed
+defined-phase h w =
+    cond-elim Leads (isEmpty w) _ _ (past-empty (h .phase) w)
+    (λ some. cond-elim Leads (codeComes (h .phase)) _ _ (λ code. refl)
+    (λ other. cond-elim Leads (nameComes (h .phase)) _ _ (λ name. cond-elim Leads (ltb (placeIn names w) 11) _ _ (λ line. refl) (λ none. refl)) (λ rest. refl)))
+  where
+    Leads : Head → Type 0
+    Leads next = next .phase ≡ past (h .phase) w
+
 -- behind the definitions' end nothing more is defined
 defined-keeps : (h : Head) (w : Word) → codeComes (h .phase) ≡ false → nameComes (h .phase) ≡ false
-    → (defined h w .codes ≡ h .codes) × (defined h w .twice ≡ h .twice) × (defined h w .phase ≡ past (h .phase) w)
-unfolding defined past
+    → (defined h w .codes ≡ h .codes) × (defined h w .twice ≡ h .twice)
+unfolding defined
 defined-keeps h w not-code nor = go (isEmpty w) refl
   where
-    go : (b : Bool) → isEmpty w ≡ b → (defined h w .codes ≡ h .codes) × (defined h w .twice ≡ h .twice) × (defined h w .phase ≡ past (h .phase) w)
-    go true is = (simp is, simp is, simp is)
-    go false is = (simp (is, not-code, nor), simp (is, not-code, nor), simp (is, not-code, nor))
+    go : (b : Bool) → isEmpty w ≡ b → (defined h w .codes ≡ h .codes) × (defined h w .twice ≡ h .twice)
+    go true is = (simp is, simp is)
+    go false is = (simp (is, not-code, nor), simp (is, not-code, nor))
 
 pub defined-over : (h : Head) (ws : List Word) → over (h .phase) ≡ true → (h .codes ≡ definedBy h ws .codes) × (h .twice ≡ definedBy h ws .twice)
 unfolding definedBy
@@ -41,7 +58,7 @@ defined-over h [] is = (refl, refl)
 defined-over h (w ∷ ws) is =
     let kept = over-past (h .phase) w is in
     let same = defined-keeps h w (kept .1) (kept .2) in
-    let rest = defined-over (defined h w) ws (ap over (same .2) ∙ kept .0) in
+    let rest = defined-over (defined h w) ws (ap over (defined-phase h w) ∙ kept .0) in
     (sym (same .0) ∙ rest .0, sym (same .1) ∙ rest .1)
 
 pub telling-append : (t : Told) (xs ys : List Fall) → telling t (xs ++ ys) ≡ telling (telling t xs) ys

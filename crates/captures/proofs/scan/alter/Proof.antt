@@ -3,9 +3,6 @@ use borrow.Author.Needs.{needs}
 use Rattle.captures.proofs.scan.alter.Statement.{statement}
 use Rattle.captures.proofs.scan.alter.Tie as tie
 
-is-declared-requires : tie.Need-is-declared-requires
-is-declared-requires c κs = search needs
-
 is-strange-requires : tie.Need-is-strange-requires
 is-strange-requires c κs = search needs
 
@@ -13,8 +10,7 @@ set-levels-requires : tie.Need-set-levels-requires
 set-levels-requires c κs = search needs
 
 returns : tie.Need-returns
-returns c = simp (c .set-levels .ensures, c .before .is-strange .ensures, c .before .before .is-declared .ensures)
+returns c = simp (c .set-levels .ensures, c .before .is-strange .ensures)
 
 pub alter-spec : {M : Type 1} → statement M
-alter-spec =
-    tie.close (tie.spec is-declared-requires is-strange-requires set-levels-requires returns)
+alter-spec = tie.close (tie.spec is-strange-requires set-levels-requires returns)

@@ -23,7 +23,7 @@ asks-requires c κs = search needs
 returns : tie.Need-returns
 returns c =
     let called = c .before .before in
-    let args = called .before .before .before .before .args in
+    let args = called .before .before .before .before .before .args in
     scan-early _ _ (args .scan) (args .word .now) _ (called .move-on .ensures ∙ ap (λ (p : Phase). inPhase p (args .scan)) (called .before .pass .ensures))
     (rw (c .before .asks .ensures) at (c .if1 .taken))
 
@@ -39,7 +39,7 @@ at-stamp-requires c κs = search needs
 returns-2 : tie.Need-returns-2
 returns-2 c =
     let called = c .before .before .before .before .before in
-    let args = called .before .before .before .before .args in
+    let args = called .before .before .before .before .before .args in
     let stamp = c .before .before .stamp-of .ensures in
     c .at-stamp .ensures ∙ ap (stamped (called .move-on .result)) stamp
     ∙ scan-stamp _ _ (args .scan) (args .word .now) _ (called .move-on .ensures ∙ ap (λ (p : Phase). inPhase p (args .scan)) (called .before .pass .ensures))
@@ -57,7 +57,7 @@ alter-requires c κs = search needs
 returns-3 : tie.Need-returns-3
 returns-3 c =
     let called = c .before .before .before .before .before .before .before .before in
-    let args = called .before .before .before .before .args in
+    let args = called .before .before .before .before .before .args in
     let level = c .before .before .before .level-set .ensures in
     let all = words (args .text .now) in
     let codes = spansOf (args .text .now) (args .codes) in
@@ -71,7 +71,7 @@ returns-3 c =
 returns-4 : tie.Need-returns-4
 returns-4 c =
     let called = c .before .before .before .before .before .before in
-    let args = called .before .before .before .before .args in
+    let args = called .before .before .before .before .before .args in
     scan-rest _ _ (args .scan) (args .word .now) _ (called .move-on .ensures ∙ ap (λ (p : Phase). inPhase p (args .scan)) (called .before .pass .ensures))
     (rw (c .before .before .before .before .before .asks .ensures) at (c .before .before .before .before .if1 .left))
     (rw (c .before .before .before .stamp-of .ensures) at (c .before .before .if2 .left)) (rw (c .before .level-set .ensures) at (c .if3 .left))
