@@ -15,3 +15,4 @@ pub mod MadePulse
 pub mod Behind
 pub mod Changes
 pub mod Counted
+pub mod Stamps

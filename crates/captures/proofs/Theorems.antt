@@ -1,7 +1,5 @@
 pub mod Answers
 pub mod Cases
-pub mod Empty
-pub mod Stamps
 pub mod Made
 pub mod Unheeded
 pub mod Form

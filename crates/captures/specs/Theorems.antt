@@ -1,19 +1,15 @@
 -- What is proved of captures: each theorem is a type here, and its proof stands in proofs/Theorems (request b).
 -- Assumes nothing.
-use mathlib.Core.Bool.{false, true}
 use mathlib.Core.List.{List, [], _∷_, _++_}
 use mathlib.Core.Logic.{_⊎_}
 use mathlib.Core.Path.{_≡_}
 use Prim.Native.Nat.{ℕ, _<_}
-use lib.ListN.{length, getD, replicate}
+use lib.ListN.{length, replicate}
 use Rattle.controller.specs.Answers.{numberOf, Row, Tells}
 use Rattle.lines.specs.declared.writer.Written.{Written}
 use Rattle.lines.specs.Text.{bytesOf}
-use Rattle.lines.specs.Writing.{Writing, Writes, writing}
-use Rattle.captures.specs.declared.scan.Scan.{Scan}
-use Rattle.captures.specs.Words.{Word, same}
-use Rattle.captures.specs.Definitions.{Head, definedBy}
-use Rattle.captures.specs.Falls.{Fall, levelAt, changed, endsStamp, stamped, altered, scannedBy, fallsFrom}
+use Rattle.lines.specs.Writing.{Writes, writing}
+use Rattle.captures.specs.Falls.{Fall, levelAt}
 use Rattle.captures.specs.Import.{fallsOf, sessionText, importing}
 use Rattle.captures.specs.Grammar.{InSubset, Missing}
 
@@ -71,27 +67,3 @@ StampStartsAgain =
     (someDefinitions ++ bytesOf "#4294967289 0! 0w 1e 0a 0b 0c 1d 1# 1$ 0% 0& #4294967290 0e #29 1e #30 0e")
     (replicate 16 0)
     ≡ writing (bytesOf "I\t38\t0\nI\t38\t36\n")
-
--- An empty word, which stands where two blanks meet, says nothing: neither to the definitions nor to the lines nor to the falls.
--- So line ends and blanks do not matter.
-pub record EmptySaysNothing : Type 0 where
-  pub definitions : (head : Head) (ws : List Word) → definedBy head ([] ∷ ws) ≡ definedBy head ws
-  pub lines : (all codes : List Word) (scan : Scan) (ws : List Word) → scannedBy all codes scan ([] ∷ ws) ≡ scannedBy all codes scan ws
-  pub falls : (all codes : List Word) (scan : Scan) (ws : List Word) → fallsFrom all codes scan ([] ∷ ws) ≡ fallsFrom all codes scan ws
-
--- What stands before the first stamp counts as at it: it ends none, and a change before it is the same as one behind it.
-pub record FirstStamp : Type 0 where
-  pub ends-none : (scan : Scan) (stamp : ℕ) → scan .begun ≡ false → endsStamp scan stamp ≡ false
-  pub before : (all codes : List Word) (scan : Scan) (code : Word) (level stamp : ℕ) → scan .begun ≡ false
-      → stamped (altered all codes scan code level) stamp ≡ altered all codes (stamped scan stamp) code level
-
--- A stamp repeated at once is one stamp.
-pub record RepeatedStamp : Type 0 where
-  pub ends-none : (scan : Scan) (stamp : ℕ) → endsStamp (stamped scan stamp) stamp ≡ false
-  pub once : (scan : Scan) (stamp : ℕ) → stamped (stamped scan stamp) stamp ≡ stamped scan stamp
-
--- A change of a code that no needed signal has alters no line.
-abbrev pub OthersSkipped : Type 0
-OthersSkipped =
-    (lines : ℕ) (codes : List Word) (code : Word) (level : ℕ) (levels : List ℕ) → ((line : ℕ) → same (getD codes line []) code ≡ false)
-    → changed lines codes code level levels ≡ levels

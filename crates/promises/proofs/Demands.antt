@@ -1,7 +1,7 @@
 -- The demands, cited where their parts are proved; here only that a refused writer of text leaves its buffer.
 -- Assumes nothing.
 use mathlib.Core.List.{List, []}
-use mathlib.Core.Path.{_≡_, refl, ap, _∙_}
+use mathlib.Core.Path.{_≡_, ap, _∙_}
 use Prim.Native.Nat.{ℕ}
 use lib.ListN.{length}
 use Rattle.controller.proofs.Theorems.Answers.{transfer-answers, loan-answers, reset-answers}

@@ -1,11 +1,11 @@
 -- Laws of captures that begin with the same words: what stands behind the definitions defines nothing, and what comes of the rest
 -- depends on the words before it through what was seen of them alone.
 -- Assumes nothing.
-use mathlib.Core.Bool.{Bool, true, false, cond, not, _&&_, _||_, false≢true}
+use mathlib.Core.Bool.{Bool, true, false, cond, not, _&&_, _||_}
 use mathlib.Core.List.{List, [], _∷_, _++_, append-assoc}
 use mathlib.Core.Path.{_≡_, refl, sym, ap, _∙_}
-use Prim.Native.Nat.{ℕ, _≤_}
-use lib.Dec.{eqb, ltb}
+use Prim.Native.Nat.{ℕ}
+use lib.Dec.{ltb}
 use lib.ListN.{length, drop}
 use borrow.Author.Tests.{leb-true}
 use Rattle.controller.proofs.Laws.Choice.{cond-elim}
@@ -13,53 +13,20 @@ use Rattle.controller.specs.Answers.{isDone}
 use Rattle.lines.specs.Line.{linesOf}
 use Rattle.lines.specs.Writing.{Writing, refusing, wanting}
 use Rattle.captures.specs.declared.form.Phase.{Phase}
-use Rattle.captures.specs.declared.form.Phase.the-variants.{Section, Scale, ScaleUnit, ScopeKind, ScopeName, VarType, VarSize, VarCode, VarName, Close, Ending, Changes, Dump, Wrong}
+use Rattle.captures.specs.declared.form.Phase.the-variants.{Section}
 use Rattle.captures.specs.declared.scan.Scan.{Scan}
 use Rattle.captures.specs.Words.{Word, words, isEmpty, same, placeIn}
 use Rattle.captures.specs.Form.{asked, codeComes, nameComes, changesCome, isWhole, past, isStamp, stampOf, isChange, levelSet}
-use Rattle.captures.specs.Definitions.{Head, blankHead, names, placed, named, coded, entering, defined, definedBy, declares, lacksCode}
-use Rattle.captures.specs.Falls.{Fall, blankScan, altered, stamped, inPhase, moved, scanned, scannedBy, ends, falls, fallAt, fallsFrom}
+use Rattle.captures.specs.Definitions.{Head, blankHead, names, placed, named, entering, defined, definedBy, declares, lacksCode}
+use Rattle.captures.specs.Falls.{Fall, blankScan, stamped, moved, scanned, scannedBy, ends, falls, fallAt, fallsFrom}
 use Rattle.captures.specs.Import.{headOf, scanOf, fallsOf, inSubset, isMissing, unknownIn, sentBy, sessionText, judged, importing}
 use Rattle.captures.specs.Unheeded.{reached, phaseAfter, GoOn, ImportAlike}
-use Rattle.captures.proofs.Laws.Falls.{over, over-asked, over-past, declares-never}
-
--- a phase behind the definitions asks for no name either
-over-names : (phase : Phase) → over phase ≡ true → nameComes phase ≡ false
-unfolding over
-over-names (Section scaled) is = absurd (false≢true is)
-over-names Scale is = absurd (false≢true is)
-over-names ScaleUnit is = absurd (false≢true is)
-over-names (ScopeKind scaled) is = absurd (false≢true is)
-over-names (ScopeName scaled) is = absurd (false≢true is)
-over-names (VarType scaled) is = absurd (false≢true is)
-over-names (VarSize scaled) is = absurd (false≢true is)
-over-names (VarCode scaled) is = absurd (false≢true is)
-over-names (VarName scaled) is = absurd (false≢true is)
-over-names (Close scaled) is = absurd (false≢true is)
-over-names Ending is = absurd (false≢true is)
-over-names Changes is = refl
-over-names Dump is = refl
-over-names Wrong is = refl
+use Rattle.captures.proofs.Laws.Falls.{declares-never}
+use Rattle.captures.proofs.Laws.Over.{over, over-asked}
+use Rattle.captures.proofs.Laws.Session.{defined-over}
 
 pub changes-over : (phase : Phase) → changesCome phase ≡ true → over phase ≡ true
 changes-over phase come = over-asked phase (leb-true 3 (asked phase) come)
-
--- behind the definitions a word alters the phase alone
-defined-over : (head : Head) (w : Word) → over (head .phase) ≡ true → defined head w ≡ entering (past (head .phase) w) head
-unfolding defined past
-defined-over head w is =
-    cond-elim (λ (h : Head). h ≡ entering (past (head .phase) w) head) (isEmpty w) _ _ (λ e. simp e)
-    (λ e. simp (over-past (head .phase) w is .1, over-names (head .phase) is))
-
-pub defined-by-over : (head : Head) (ws : List Word) → over (head .phase) ≡ true
-    → (definedBy head ws .codes ≡ head .codes) × (definedBy head ws .twice ≡ head .twice)
-unfolding definedBy
-defined-by-over head [] is = (refl, refl)
-defined-by-over head (w ∷ ws) is =
-    let next = entering (past (head .phase) w) head in
-    let goes : definedBy (defined head w) ws ≡ definedBy next ws = ap (λ (h : Head). definedBy h ws) (defined-over head w is) in
-    let rest = defined-by-over next ws (over-past (head .phase) w is .0) in
-    (ap (λ (h : Head). h .codes) goes ∙ rest .0, ap (λ (h : Head). h .twice) goes ∙ rest .1)
 
 defined-append : (head : Head) (xs ys : List Word) → definedBy head (xs ++ ys) ≡ definedBy (definedBy head xs) ys
 unfolding definedBy
@@ -201,8 +168,8 @@ module _ (start : List Word) (past-them : over (phaseAfter start) ≡ true) wher
     codes-then =
         let parts : headOf capture ≡ definedBy (definedBy blankHead start) rest = ap (definedBy blankHead) is ∙ defined-append blankHead start rest in
         let reaches : over (definedBy blankHead start .phase) ≡ true = ap over (defined-reached blankHead start) ∙ past-them in
-        let none = defined-by-over (definedBy blankHead start) rest reaches in
-        (ap (λ (h : Head). h .codes) parts ∙ none .0, ap (λ (h : Head). h .twice) parts ∙ none .1)
+        let none = defined-over (definedBy blankHead start) rest reaches in
+        (ap (λ (h : Head). h .codes) parts ∙ sym (none .0), ap (λ (h : Head). h .twice) parts ∙ sym (none .1))
 
     declared-then : SameDeclared (words capture) start
     declared-then byte code =

@@ -1,18 +1,18 @@
 -- Laws of the definitions' names: which needed signal a name is, and how often it has been.
 -- Assumes nothing.
-use mathlib.Core.Bool.{Bool, true, false, cond, not, _||_, false≢true, true≢false}
+use mathlib.Core.Bool.{Bool, true, false, cond, not, _||_, true≢false}
 use mathlib.Core.List.{List, [], _∷_}
 use mathlib.Core.Path.{_≡_, refl, sym, ap, _∙_}
 use Prim.Native.Nat.{ℕ, zero, suc, _+_, _<_, _≤_}
 use native.Mathlib.Omega.{arith}
-use lib.Dec.{eqb, ltb}
+use lib.Dec.{eqb}
 use lib.ListN.{length, getD, set, length-set}
 use lib.Seq.{getD-set-same, getD-set-other}
-use borrow.Author.Tests.{eqb-true, eqb-false, eq-eqb, ne-eqb, ltb-true, ltb-false, not-true, not-false}
+use borrow.Author.Tests.{eqb-true, eqb-false, eq-eqb, ne-eqb, not-true, not-false}
 use Rattle.lines.proofs.Laws.Digits.{either}
 use Rattle.captures.specs.Words.{Word, isBlank, isEmpty, joined, placeIn, same, words}
 use Rattle.captures.specs.Definitions.{names}
-use Rattle.captures.specs.Grammar.{needed, times}
+use Rattle.captures.specs.Grammar.{needed}
 use Rattle.captures.proofs.Laws.Words.{same-by, same-true}
 
 own-place : (line : ℕ) → line < 11 → placeIn names (needed line) ≡ line

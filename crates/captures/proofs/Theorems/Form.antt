@@ -1,26 +1,19 @@
 -- 14 and 15 look at the text's form alone.
 -- Assumes nothing.
-use mathlib.Core.Bool.{Bool, true, false, cond, not, _&&_, _||_, false≢true}
+use mathlib.Core.Bool.{Bool, true, false, cond, false≢true}
 use mathlib.Core.List.{List, [], _∷_}
 use mathlib.Core.Logic.{⊎-elim}
 use mathlib.Core.Path.{_≡_, refl, sym, ap, _∙_}
-use Prim.Native.Nat.{ℕ}
-use lib.ListN.{drop}
-use Rattle.controller.specs.declared.answers.Answer.the-variants.{OutsideSubset}
-use Rattle.controller.specs.Answers.{numberOf}
-use Rattle.controller.proofs.Laws.Answers.{one-answer}
 use Rattle.controller.proofs.Laws.Choice.{cond-elim}
 use Rattle.lines.proofs.Laws.Digits.{either}
 use Rattle.captures.specs.declared.form.Phase.{Phase}
 use Rattle.captures.specs.declared.form.Phase.the-variants.{Section, Scale, ScaleUnit, ScopeKind, ScopeName, VarType, VarSize, VarCode, VarName, Close, Ending, Changes, Dump, Wrong}
 use Rattle.captures.specs.declared.scan.Scan.{Scan}
 use Rattle.captures.specs.Words.{Word, isEmpty, isPlain}
-use Rattle.captures.specs.Form.{after, changesCome, isWhole, past, isStamp, isChange}
-use Rattle.captures.specs.Definitions.{declares}
-use Rattle.captures.specs.Falls.{blankScan, moved, stamped, scanned, scannedBy}
-use Rattle.captures.specs.Import.{inSubset, isMissing, judged, importing}
+use Rattle.captures.specs.Form.{after, changesCome, past}
+use Rattle.captures.specs.Falls.{blankScan, scanned, scannedBy}
 use Rattle.captures.specs.Unheeded.{phaseAfter, OneForm, AllOneForm, FormAlone}
-use Rattle.captures.proofs.Laws.Falls.{over, over-past}
+use Rattle.captures.proofs.Laws.Over.{over, over-past}
 use Rattle.captures.proofs.Laws.Behind.{changes-over, codesThen, formThen, missing-then, scanThen, scanned-phase, scanned-reached, scanned-stranger, stranger, subset-then}
 use Rattle.captures.proofs.Laws.Changes.{change-no-stamp, change-past}
 use Rattle.captures.proofs.Theorems.Answers.{outside-first}

@@ -1,10 +1,9 @@
 -- The subset, word by word, is its grammar: what is left to come in each phase is what the grammar leaves.
 -- Assumes nothing.
-use mathlib.Core.Bool.{Bool, true, false, cond, not, false≢true}
+use mathlib.Core.Bool.{Bool, true, false, cond, false≢true}
 use mathlib.Core.List.{List, [], _∷_}
 use mathlib.Core.Path.{_≡_, refl, sym, ap, subst, _∙_}
 use Prim.Native.Nat.{ℕ}
-use lib.Dec.{leb, ltb}
 use Rattle.controller.proofs.Laws.Choice.{cond-elim}
 use Rattle.lines.specs.Text.{bytesOf}
 use Rattle.captures.specs.declared.form.Phase.{Phase}

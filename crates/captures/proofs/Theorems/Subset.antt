@@ -1,9 +1,9 @@
 -- What the definitions' flags say of a grammatical text: a needed name twice, an undeclared code, a missing signal.
 -- Assumes nothing.
-use mathlib.Core.Bool.{Bool, true, false, cond, not, _&&_, _||_, false≢true, true≢false}
+use mathlib.Core.Bool.{Bool, true, false, cond, not, _&&_, _||_, false≢true}
 use mathlib.Core.List.{List, [], _∷_}
 use mathlib.Core.Path.{_≡_, refl, sym, ap, subst, _∙_}
-use Prim.Native.Nat.{ℕ, zero, suc, _+_, _<_, _≤_}
+use Prim.Native.Nat.{ℕ, zero, suc, _+_, _<_}
 use native.Mathlib.Omega.{arith}
 use lib.Dec.{eqb, ltb}
 use lib.ListN.{getD, drop, replicate}
@@ -17,18 +17,20 @@ use Rattle.captures.specs.declared.form.Phase.the-variants.{Section, Sco
 use Rattle.captures.specs.declared.scan.Scan.{Scan}
 use Rattle.captures.specs.Words.{Word, words, isEmpty, isPlain, placeIn, same}
 use Rattle.captures.specs.Form.{after, asked, isWhole, levelOf, levelSet, opened, past, stampOf}
-use Rattle.captures.specs.Definitions.{Head, blankHead, names, placed, named, entering, defined, definedBy, declares, lacksCode}
+use Rattle.captures.specs.Definitions.{Head, names, placed, named, defined, definedBy, declares, lacksCode}
 use Rattle.captures.specs.Falls.{blankScan, scanned, scannedBy}
 use Rattle.captures.specs.Import.{headOf, scanOf, inSubset, isMissing}
 use Rattle.captures.specs.Unheeded.{said}
 use Rattle.captures.specs.Grammar.{AllAmong, AllPlain, InSubset, Later, Missing, Sections, changedIn, changedOf, codesOf, namesOf, needed, times}
 use Rattle.captures.specs.Grammar as Grammar
-use Rattle.captures.proofs.Laws.Behind.{defined-by-over, scanned-phase, scanned-stranger, stranger}
-use Rattle.captures.proofs.Laws.Changes.{change-no-stamp, change-past, code-plain, filled, stamp-past}
+use Rattle.captures.proofs.Laws.Behind.{scanned-phase, scanned-stranger, stranger}
+use Rattle.captures.proofs.Laws.Changes.{change-no-stamp, change-past, code-plain, stamp-past}
 use Rattle.captures.proofs.Laws.Counted.{Counted, counted-as, other-counted, own-counted}
-use Rattle.captures.proofs.Laws.Falls.{declares-never, over}
+use Rattle.captures.proofs.Laws.Falls.{declares-never}
+use Rattle.captures.proofs.Laws.Over.{over}
+use Rattle.captures.proofs.Laws.Session.{defined-over}
 use Rattle.captures.proofs.Theorems.Grammar.{AllFilled, form-is-grammar, past-is, said-filled}
-use Rattle.captures.proofs.Theorems.Unheeded.{head-said, scan-said, codesSaid, saidIn}
+use Rattle.captures.proofs.Theorems.Unheeded.{head-said, scan-said, codesSaid}
 
 abbrev headed : Phase → Word → List Word → Bool → Head
 headed phase code codes twice = record { phase = phase; code = code; codes = codes; twice = twice }
@@ -101,9 +103,9 @@ sections-counted (Grammar.var scaled type own name ws e other nor rest) some pla
     (sections-counted rest (some .1 .1 .1 .1 .1 .1) (plain .1 .1 .1 .1 .1 .1) own (head .codes) (head .twice) (λ line. often line + one line)
     (counted-name (Close scaled) own codes twice often name (some .1 .1 .1 .0) is)))
 sections-counted (Grammar.over ws rest) some plain code codes twice often is =
-    let none = defined-by-over (headed Changes code codes twice) ws refl in
-    subst (λ (l : List Word). Counted l (definedBy (headed Changes code codes twice) ws .twice) (λ line. often line + 0)) (sym (none .0))
-    (subst (λ (t : Bool). Counted codes t (λ line. often line + 0)) (sym (none .1))
+    let none = defined-over (headed Changes code codes twice) ws refl in
+    subst (λ (l : List Word). Counted l (definedBy (headed Changes code codes twice) ws .twice) (λ line. often line + 0)) (none .0)
+    (subst (λ (t : Bool). Counted codes t (λ line. often line + 0)) (none .1)
     (counted-as codes twice often (λ line. often line + 0) (λ line. omega arith) is))
 
 -- the sections declare a code where it stands in one of them

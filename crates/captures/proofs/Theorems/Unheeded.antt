@@ -1,11 +1,10 @@
 -- What an import takes no notice of.
 -- Assumes nothing.
-use mathlib.Core.Bool.{Bool, true, false, cond, not, _&&_, _||_, false≢true}
+use mathlib.Core.Bool.{Bool, true, false, not, _&&_, _||_}
 use mathlib.Core.List.{List, [], _∷_, _++_}
-use mathlib.Core.Logic.{⊎-elim}
 use mathlib.Core.Path.{_≡_, refl, sym, ap, _∙_}
 use Prim.Native.Nat.{ℕ}
-use lib.Dec.{eqb, leb}
+use lib.Dec.{leb}
 use lib.ListN.{getD, drop}
 use Rattle.captures.specs.declared.form.Phase.{Phase}
 use Rattle.captures.specs.declared.form.Phase.the-variants.{Section}
@@ -15,18 +14,17 @@ use Rattle.captures.specs.Form.{codeComes, isWhole, past, changesCome, i
 use Rattle.captures.specs.Definitions.{Head, blankHead, definedBy, declares, lacksCode}
 use Rattle.captures.specs.Falls.{Fall, blankScan, ends, falls, fallAt, scanned, scannedBy, fallsFrom, altered, stamped, endsStamp}
 use Rattle.captures.specs.Import.{headOf, scanOf, fallsOf, inSubset, isMissing}
-use Rattle.captures.specs.Unheeded.{said, BlanksUnheeded, GoOn, NoStamps, OtherScalar, OthersUnheeded, StampAfter, FirstStampUnheeded, RepeatedStampUnheeded, phaseAfter}
+use Rattle.captures.specs.Unheeded.{said, BlanksUnheeded, NoStamps, OthersUnheeded, StampAfter, FirstStampUnheeded, RepeatedStampUnheeded, phaseAfter}
 use Rattle.captures.proofs.Laws.Behind.{SameDeclared, falls-all, import-alike, scanned-by-all, changes-over, codesThen, rest-alike, scanThen, scanned-reached}
-use Rattle.captures.proofs.Theorems.Empty.{empty-says-nothing}
 use Rattle.captures.proofs.Laws.Changes.{change-no-stamp, change-scanned, no-end-tells, no-stamp-tells, scanned-begun, stamp-scanned, whole-come}
-use Rattle.captures.proofs.Theorems.Stamps.{first-stamp, repeated-stamp, others-skipped}
+use Rattle.captures.proofs.Laws.Stamps.{again-ends-none, again-same, empty-defines, empty-shows, empty-tells, first-either-way, first-ends-none, others-skipped}
 
 -- line ends and blanks: nothing that is asked of the words is changed by the empty ones
 
 defined-said : (head : Head) (ws : List Word) → definedBy head ws ≡ definedBy head (said ws)
 unfolding definedBy said
 defined-said head [] = refl
-defined-said head ([] ∷ ws) = empty-says-nothing .definitions head ws ∙ defined-said head ws
+defined-said head ([] ∷ ws) = empty-defines head ws ∙ defined-said head ws
 defined-said head ((byte ∷ w) ∷ ws) = defined-said _ ws
 
 declares-said : (phase : Phase) (ws : List Word) (byte : ℕ) (code : Word) → declares phase ws (byte ∷ code) ≡ declares phase (said ws) (byte ∷ code)
@@ -43,13 +41,13 @@ declares-said phase ((first ∷ w) ∷ ws) byte code =
 scanned-said : (all codes : List Word) (scan : Scan) (ws : List Word) → scannedBy all codes scan ws ≡ scannedBy all codes scan (said ws)
 unfolding scannedBy said
 scanned-said all codes scan [] = refl
-scanned-said all codes scan ([] ∷ ws) = empty-says-nothing .lines all codes scan ws ∙ scanned-said all codes scan ws
+scanned-said all codes scan ([] ∷ ws) = empty-shows all codes scan ws ∙ scanned-said all codes scan ws
 scanned-said all codes scan ((byte ∷ w) ∷ ws) = scanned-said all codes (scanned all codes scan (byte ∷ w)) ws
 
 falls-said : (all codes : List Word) (scan : Scan) (ws : List Word) → fallsFrom all codes scan ws ≡ fallsFrom all codes scan (said ws)
 unfolding fallsFrom said
 falls-said all codes scan [] = refl
-falls-said all codes scan ([] ∷ ws) = empty-says-nothing .falls all codes scan ws ∙ falls-said all codes scan ws
+falls-said all codes scan ([] ∷ ws) = empty-tells all codes scan ws ∙ falls-said all codes scan ws
 falls-said all codes scan ((byte ∷ w) ∷ ws) =
     ap (λ (l : List Fall). fallAt (ends scan (byte ∷ w) && falls scan) scan ++ l) (falls-said all codes (scanned all codes scan (byte ∷ w)) ws)
 
@@ -179,7 +177,7 @@ module _ (start : List Word) (w s : Word) (rest : List Word) (at : StampAfter st
   both-ways =
       ap (λ (t : Scan). scanned start codes t s) changed-first
       ∙ stamp-scanned start codes (altered start codes scan (drop 1 w) (levelSet w)) s whole (at .stamp) (at .plain)
-      ∙ first-stamp .before start codes scan (drop 1 w) (levelSet w) (stampOf s) begun
+      ∙ first-either-way start codes scan (drop 1 w) (levelSet w) (stampOf s) begun
       ∙ sym (change-scanned start codes (stamped scan (stampOf s)) w come is plain)
       ∙ sym (ap (λ (t : Scan). scanned start codes t w) stamped-first)
 
@@ -188,10 +186,10 @@ module _ (start : List Word) (w s : Word) (rest : List Word) (at : StampAfter st
       let none = change-no-stamp w is in
       no-stamp-tells start codes scan w (s ∷ rest) none
       ∙ no-end-tells start codes (scanned start codes scan w) s rest
-      (first-stamp .ends-none (scanned start codes scan w) (stampOf s) (scanned-begun start codes scan w none ∙ begun))
+      (first-ends-none (scanned start codes scan w) (stampOf s) (scanned-begun start codes scan w none ∙ begun))
       ∙ ap (λ (t : Scan). fallsFrom start codes t rest) both-ways
       ∙ sym (no-stamp-tells start codes (scanned start codes scan s) w rest none)
-      ∙ sym (no-end-tells start codes scan s (w ∷ rest) (first-stamp .ends-none scan (stampOf s) begun))
+      ∙ sym (no-end-tells start codes scan s (w ∷ rest) (first-ends-none scan (stampOf s) begun))
 
 pub first-stamp-unheeded : FirstStampUnheeded
 unfolding scannedBy
@@ -208,7 +206,7 @@ unfolding stamped
 again-scanned all codes scan s again whole is plain also same-stamp =
     let once = stamp-scanned all codes scan s whole is plain in
     let twice : stamped (stamped scan (stampOf s)) (stampOf again) ≡ stamped scan (stampOf s) =
-    ap (stamped (stamped scan (stampOf s))) same-stamp ∙ repeated-stamp .once scan (stampOf s) in
+    ap (stamped (stamped scan (stampOf s))) same-stamp ∙ again-same scan (stampOf s) in
     ap (λ (t : Scan). scanned all codes t again) once
     ∙ stamp-scanned all codes (stamped scan (stampOf s)) again whole (ap (λ (n : ℕ). leb n stampLimit) same-stamp ∙ is) also
     ∙ twice
@@ -224,7 +222,7 @@ repeated-stamp-unheeded a b start rest s again go at also same-stamp =
     let seen = again-scanned start codes scan s again whole (at .stamp) (at .plain) also same-stamp in
     let none : endsStamp (scanned start codes scan s) (stampOf again) ≡ false =
     ap (λ (n : ℕ). endsStamp (scanned start codes scan s) n) same-stamp
-    ∙ ap (λ (t : Scan). endsStamp t (stampOf s)) once ∙ repeated-stamp .ends-none scan (stampOf s) in
+    ∙ ap (λ (t : Scan). endsStamp t (stampOf s)) once ∙ again-ends-none scan (stampOf s) in
     rest-alike start (changes-over (phaseAfter start) (whole-come (phaseAfter start) (at .place))) a b (s ∷ again ∷ rest) (s ∷ rest) go
     (ap (λ (t : Scan). scannedBy start codes t rest) seen)
     (ap (λ (l : List Fall). fallAt (ends scan s && falls scan) scan ++ l)

@@ -2,7 +2,7 @@
 -- theorems of the crates beneath.
 -- Assumes nothing.
 use mathlib.Core.Bool.{Bool, true, false, cond, not, _&&_, true≢false, false≢true}
-use mathlib.Core.List.{List, [], _∷_}
+use mathlib.Core.List.{List, _∷_}
 use mathlib.Core.Logic.{inl, ⊎-elim}
 use mathlib.Core.Path.{_≡_, refl, sym, ap, subst, _∙_}
 use Prim.Native.Nat.{ℕ, _+_, _*_, _%_}
@@ -49,11 +49,11 @@ use Rattle.interface.specs.CaptureCalls.{importCall}
 use Rattle.interface.specs.ControllerCalls.{Call, resetCall, transferCall, transferFrom}
 use Rattle.interface.specs.Filling.{Filling}
 use Rattle.interface.specs.LineCalls.{stored, writeCall}
-use Rattle.interface.specs.PictureCalls.{pictureCall, pictureFrom, sizeOf}
+use Rattle.interface.specs.PictureCalls.{pictureFrom, sizeOf}
 use Rattle.interface.specs.PlanCalls.{planFrom, wishless}
 use Rattle.interface.specs.RecordBytes.{recordFrom, isRecordLong, recordIn}
 use Rattle.interface.specs.Theorems.{AreOf, CallAnswers, NoneWished, OverRecord, answerIn, readRows, resetCallRows}
-use Rattle.interface.specs.WishBytes.{wishBytes, wishIn}
+use Rattle.interface.specs.WishBytes.{wishIn}
 use Rattle.interface.proofs.Laws.Calls.{reset-done}
 use Rattle.interface.proofs.Laws.Told.{answer-in}
 use Rattle.interface.proofs.Theorems.Record.{record-reads-back, record-writes-back}
