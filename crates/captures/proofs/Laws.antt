@@ -16,3 +16,4 @@ pub mod Behind
 pub mod Changes
 pub mod Counted
 pub mod Stamps
+pub mod Faults

@@ -5,6 +5,7 @@ pub mod Falls
 pub mod Import
 pub mod Walk
 pub mod Table
+pub mod Faults
 pub mod Promises
 pub mod Made
 pub mod Unheeded

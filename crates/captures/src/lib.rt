@@ -1,10 +1,15 @@
 // A capture from the logic pod, Value Change Dump text, as a session's text. Request b).
 mod definitions;
 mod falls;
+mod faults;
 mod form;
 mod scan;
 mod session;
 mod table;
 mod words;
 
+pub use faults::Fault;
+pub use faults::Wrong;
+pub use faults::lacks_signal;
+pub use faults::wrong_word;
 pub use session::import;

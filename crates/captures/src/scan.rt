@@ -151,7 +151,7 @@ fn alter(text: &[u8], codes: Codes, table: &[u8], scan: Scan, code: &[u8], level
 }
 
 // Whether some changed code is not declared, with this one more: looked up in the text where the table does not know it.
-fn is_strange(text: &[u8], table: &[u8], strange: bool, code: &[u8]) -> bool
+pub fn is_strange(text: &[u8], table: &[u8], strange: bool, code: &[u8]) -> bool
     requires { ⌜ Sound (now table) (words (now text)) ⌝ }
     ensures { λ r. ⌜ r ≡ strange || not (declares (Phase.Section false) (words (now (text .entry))) (now (code .entry))) ⌝ }
 {

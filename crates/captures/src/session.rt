@@ -111,7 +111,7 @@ fn walk(text: &[u8], codes: Codes, table: &[u8], out: &mut [u8]) -> Ended
     Ended { scan, tally }
 }
 
-fn blank_head() -> Head
+pub fn blank_head() -> Head
     ensures { λ r. ⌜ ((text : List ℕ) → headIn text r ≡ blankHead) ⌝ }
 {
     Head {
@@ -127,7 +127,7 @@ fn blank_head() -> Head
 }
 
 // Reads the definitions of a capture, up to their end, and notes the codes that they declare.
-fn read_head(text: &[u8], table: &mut [u8]) -> Head
+pub fn read_head(text: &[u8], table: &mut [u8]) -> Head
     requires { ⌜ Tabled (now table) (words (now text)) [] 0 ⌝ }
     ensures { λ r. ⌜ HeadRead (now (text .entry)) r × Tabled (now (table .exit)) (words (now (text .entry))) [] 0 ⌝ }
 {
