@@ -1,10 +1,10 @@
 -- Walks over a capture's text: where they stand, and what is left. Only the code's own contracts cite these.
 -- Assumes nothing.
-use mathlib.Core.Bool.{true, false, cond, _||_}
+use mathlib.Core.Bool.{Bool, true, false, cond, _&&_, _||_}
 use mathlib.Core.List.{List, [], _∷_}
 use mathlib.Core.Path.{_≡_}
 use Prim.Native.Nat.{ℕ, _+_, _-_, _≤_}
-use lib.Dec.{ltb}
+use lib.Dec.{leb, ltb}
 use lib.ListN.{length, take, drop}
 use Rattle.lines.specs.Line.{line}
 use Rattle.lines.specs.Text.{Put, put, putting}
@@ -13,8 +13,9 @@ use Rattle.captures.specs.declared.definitions.Codes.{Codes}
 use Rattle.captures.specs.declared.definitions.Head as places
 use Rattle.captures.specs.declared.scan.Scan.{Scan}
 use Rattle.captures.specs.Words.{Word, words}
+use Rattle.captures.specs.Form.{changesCome, stampLimit}
 use Rattle.captures.specs.Definitions.{Head, blankHead, definedBy}
-use Rattle.captures.specs.Falls.{Fall, blankScan, scannedBy, fallsFrom}
+use Rattle.captures.specs.Falls.{Fall, blankScan, endsStamp, scannedBy, fallsFrom}
 use Rattle.captures.specs.Import.{kindOf, byteOf, waitFrom, unknownAt}
 
 -- The bytes of a text from one place up to another.
@@ -63,6 +64,10 @@ withLevels scan levels =
       before = scan .before;
       strange = scan .strange;
     }
+
+-- This is a stamp that ends the one before it.
+abbrev pub endsBy : Scan → ℕ → Bool
+endsBy scan stamp = changesCome (scan .phase) && (leb stamp stampLimit && endsStamp scan stamp)
 
 -- The stamp that a transfer's wait counts from: that of the fall before, or its own where there is none.
 abbrev pub since : Tally → ℕ → ℕ

@@ -1,6 +1,6 @@
 // The falls of E, each told as a session line.
 ghost use mathlib.Core.Path.{_≡_};
-ghost use mathlib.Core.Bool.{false, _&&_, _||_};
+ghost use mathlib.Core.Bool.{false};
 ghost use mathlib.Core.List.{[]};
 ghost use Prim.Native.Nat.{_+_, _≤_};
 ghost use lib.ListN.{length};
@@ -161,14 +161,11 @@ fn tell(stamp: u32, levels: [u8; 11], tally: Tally, out: &mut [u8]) -> Tally
     }
 }
 
-// The tally at a stamp's end, if this is one, with the fall there, if there is one.
-pub fn tell_end(ends: bool, scan: Scan, tally: Tally, out: &mut [u8]) -> Tally
-    ensures { λ r. ⌜ told r (now (out .exit)) ≡ telling (told tally (now (out .entry))) (fallAt (ends && falls scan) scan) ⌝ }
+// The tally at a stamp's end, with the fall there, if there is one.
+pub fn tell_end(scan: Scan, tally: Tally, out: &mut [u8]) -> Tally
+    ensures { λ r. ⌜ told r (now (out .exit)) ≡ telling (told tally (now (out .entry))) (fallAt (falls scan) scan) ⌝ }
 {
     let levels = scan.levels;
-    if !ends {
-        return tally;
-    }
     if scan.before != 1 {
         return tally;
     }

@@ -201,6 +201,19 @@ pub fn pass(phase: Phase, word: &[u8]) -> Phase
     Phase::Wrong
 }
 
+// The same, where the stamp that the word says is known: where stamps come, one leaves us in the phase.
+pub fn pass_stamp(phase: Phase, word: &[u8], stamp: u64) -> Phase
+    requires { ⌜ stamp ≡ stampOf (now word) ⌝ }
+    ensures { λ r. ⌜ r ≡ past phase (now (word .entry)) ⌝ }
+{
+    if stamp <= 4_294_967_295 {
+        if asks(phase) == 3 {
+            return phase;
+        }
+    }
+    pass(phase, word)
+}
+
 // What a phase asks for: a code (1), a name (2), stamps and changes (3), or changes and an end (4).
 pub fn asks(phase: Phase) -> u8
     ensures { λ r. ⌜ r ≡ asked phase ⌝ }

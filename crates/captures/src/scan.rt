@@ -4,7 +4,7 @@ ghost use mathlib.Core.Bool.{cond, false, not, _&&_, _||_};
 ghost use Prim.Native.Nat.{_<_};
 ghost use Rattle.captures.specs.Words.{words};
 ghost use Rattle.captures.specs.Words.{same as sameWord};
-ghost use Rattle.captures.specs.Form.{codeComes};
+ghost use Rattle.captures.specs.Form.{codeComes, stampOf};
 ghost use Rattle.captures.specs.Definitions.{declares};
 ghost use Rattle.captures.specs.Falls.{altered, changed, endsStamp, inPhase, scanned, stamped};
 ghost use Rattle.captures.specs.Walk.{spansOf, withLevels};
@@ -16,7 +16,7 @@ use crate::form::Phase;
 use crate::form::asks;
 use crate::form::level_set;
 use crate::form::pass;
-use crate::form::stamp_of;
+use crate::form::pass_stamp;
 use crate::table::entry_of;
 use crate::words::part;
 use crate::words::same;
@@ -177,17 +177,23 @@ pub fn line_set(table: &[u8], phase: Phase, word: &[u8]) -> usize
     entry_of(table, part(word, 1, word.len())) as usize
 }
 
-// The capture with a word more.
-pub fn scan_word(text: &[u8], codes: Codes, table: &[u8], scan: Scan, word: &[u8]) -> Scan
-    requires { ⌜ Sound (now table) (words (now text)) ⌝ }
+// The capture with a word more, whose stamp is known.
+pub fn scan_word(
+    text: &[u8],
+    codes: Codes,
+    table: &[u8],
+    scan: Scan,
+    word: &[u8],
+    stamp: u64,
+) -> Scan
+    requires { ⌜ Sound (now table) (words (now text)) × (stamp ≡ stampOf (now word)) ⌝ }
     ensures { λ r. ⌜ r ≡ scanned (words (now (text .entry))) (spansOf (now (text .entry)) codes) scan (now (word .entry)) ⌝ }
 {
     let phase = scan.phase;
-    let moved = move_on(scan, pass(phase, word));
+    let moved = move_on(scan, pass_stamp(phase, word, stamp));
     if asks(phase) < 3 {
         return moved;
     }
-    let stamp = stamp_of(word);
     if stamp <= 4_294_967_295 {
         return at_stamp(moved, stamp as u32);
     }

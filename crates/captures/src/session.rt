@@ -8,11 +8,10 @@ ghost use Rattle.captures.specs.Words.{words};
 ghost use Rattle.captures.specs.Form.{isWhole};
 ghost use Rattle.captures.specs.Definitions.{blankHead, lacksCode};
 ghost use Rattle.captures.specs.Falls.{blankScan};
-ghost use Rattle.captures.specs.Falls.{ends as endsAt};
 ghost use Rattle.captures.specs.Import.{judged};
 ghost use Rattle.captures.specs.Promises.{ImportPromise};
 ghost use Rattle.captures.specs.Table.{Tabled};
-ghost use Rattle.captures.specs.Walk.{HeadRead, Walked, headIn, noTally, spansOf};
+ghost use Rattle.captures.specs.Walk.{HeadRead, Walked, endsBy, headIn, noTally, spansOf};
 use crate::definitions::Codes;
 use crate::definitions::Head;
 use crate::definitions::code_at;
@@ -66,15 +65,14 @@ fn no_tally() -> Tally
     }
 }
 
-// Whether a word is a stamp that ends the one before it.
-fn ends(scan: Scan, word: &[u8]) -> bool
-    ensures { λ r. ⌜ r ≡ endsAt scan (now (word .entry)) ⌝ }
+// Whether this is a stamp that ends the one before it.
+fn ends(scan: Scan, stamp: u64) -> bool
+    ensures { λ r. ⌜ r ≡ endsBy scan stamp ⌝ }
 {
     let phase = scan.phase;
     if asks(phase) < 3 {
         return false;
     }
-    let stamp = stamp_of(word);
     if 4_294_967_295 < stamp {
         return false;
     }
@@ -104,10 +102,13 @@ fn walk(text: &[u8], codes: Codes, table: &[u8], out: &mut [u8]) -> Ended
         if line == 11 {
             continue;
         }
-        tally = tell_end(ends(scan, word), scan, tally, out);
-        scan = scan_word(text, codes, table, scan, word);
+        let stamp = stamp_of(word);
+        if ends(scan, stamp) {
+            tally = tell_end(scan, tally, out);
+        }
+        scan = scan_word(text, codes, table, scan, word, stamp);
     }
-    tally = tell_end(true, scan, tally, out);
+    tally = tell_end(scan, tally, out);
     Ended { scan, tally }
 }
 

@@ -109,3 +109,16 @@ module _ (t : Told) (scan : Scan) (ended : Bool) where
       end-one t scan (ended && falls scan)
       (ap (λ (b : Bool). b && falls scan) is ∙ ap (λ (b : Bool). b && eqb (levelAt (scan .levels) 2) 0) (eq-eqb (scan .before) 1 high)
       ∙ eq-eqb (levelAt (scan .levels) 2) 0 low)
+
+-- the tally and the buffer behind a word, where it ends a stamp and where it does not
+pub told-ended : (tally before : Tally) (out kept : List ℕ) (t : Told) (scan : Scan) (ended : Bool) → out ≡ kept → tally ≡ before → ended ≡ true
+    → told before kept ≡ telling t (fallAt (falls scan) scan) → told tally out ≡ telling t (fallAt (ended && falls scan) scan)
+told-ended tally before out kept t scan ended o l is tells =
+    let same : told tally out ≡ told before kept = cc in
+    same ∙ tells ∙ sym (ap (λ (b : Bool). telling t (fallAt (b && falls scan) scan)) is)
+
+pub told-same : (tally before : Tally) (out kept : List ℕ) (scan : Scan) (ended : Bool) → out ≡ kept → tally ≡ before → ended ≡ false
+    → told tally out ≡ telling (told before kept) (fallAt (ended && falls scan) scan)
+told-same tally before out kept scan ended o l is =
+    let same : told tally out ≡ told before kept = cc in
+    same ∙ not-ended (told before kept) scan ended is

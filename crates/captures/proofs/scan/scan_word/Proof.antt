@@ -11,8 +11,8 @@ use borrow.Author.Needs.{needs}
 use Rattle.captures.proofs.scan.scan_word.Statement.{statement}
 use Rattle.captures.proofs.scan.scan_word.Tie as tie
 
-pass-requires : tie.Need-pass-requires
-pass-requires c κs = search needs
+pass-stamp-requires : tie.Need-pass-stamp-requires
+pass-stamp-requires c κs = search needs
 
 move-on-requires : tie.Need-move-on-requires
 move-on-requires c κs = search needs
@@ -24,11 +24,8 @@ returns : tie.Need-returns
 returns c =
     let called = c .before .before in
     let args = called .before .before .before .before .before .args in
-    scan-early _ _ (args .scan) (args .word .now) _ (called .move-on .ensures ∙ ap (λ (p : Phase). inPhase p (args .scan)) (called .before .pass .ensures))
-    (rw (c .before .asks .ensures) at (c .if1 .taken))
-
-stamp-of-requires : tie.Need-stamp-of-requires
-stamp-of-requires c κs = search needs
+    let goes = called .move-on .ensures ∙ ap (λ (p : Phase). inPhase p (args .scan)) (called .before .pass-stamp .ensures) in
+    scan-early _ _ (args .scan) (args .word .now) _ goes (rw (c .before .asks .ensures) at (c .if1 .taken))
 
 cast-at-stamp : tie.Need-cast-at-stamp
 cast-at-stamp c = search needs
@@ -38,12 +35,13 @@ at-stamp-requires c κs = search needs
 
 returns-2 : tie.Need-returns-2
 returns-2 c =
-    let called = c .before .before .before .before .before in
+    let called = c .before .before .before .before in
     let args = called .before .before .before .before .before .args in
-    let stamp = c .before .before .stamp-of .ensures in
+    let goes = called .move-on .ensures ∙ ap (λ (p : Phase). inPhase p (args .scan)) (called .before .pass-stamp .ensures) in
+    let stamp = called .before .before .before .before .before .pre .1 in
     c .at-stamp .ensures ∙ ap (stamped (called .move-on .result)) stamp
-    ∙ scan-stamp _ _ (args .scan) (args .word .now) _ (called .move-on .ensures ∙ ap (λ (p : Phase). inPhase p (args .scan)) (called .before .pass .ensures))
-    (rw (c .before .before .before .before .asks .ensures) at (c .before .before .before .if1 .left)) (rw stamp at (c .before .if2 .taken))
+    ∙ scan-stamp _ _ (args .scan) (args .word .now) _ goes (rw (c .before .before .before .asks .ensures) at (c .before .before .if1 .left))
+    (rw stamp at (c .before .if2 .taken))
 
 level-set-requires : tie.Need-level-set-requires
 level-set-requires c κs = search needs
@@ -56,35 +54,36 @@ alter-requires c κs = search needs
 
 returns-3 : tie.Need-returns-3
 returns-3 c =
-    let called = c .before .before .before .before .before .before .before .before in
+    let called = c .before .before .before .before .before .before .before in
     let args = called .before .before .before .before .before .args in
+    let goes = called .move-on .ensures ∙ ap (λ (p : Phase). inPhase p (args .scan)) (called .before .pass-stamp .ensures) in
+    let stamp = called .before .before .before .before .before .pre .1 in
     let level = c .before .before .before .level-set .ensures in
     let all = words (args .text .now) in
     let codes = spansOf (args .text .now) (args .codes) in
     c .alter .ensures
     ∙ ap (λ (w : Word). altered all codes (called .move-on .result) w (c .before .before .before .level-set .result)) (c .before .part .ensures ∙ span-tail (args .word .now))
     ∙ ap (altered all codes (called .move-on .result) _) level
-    ∙ scan-change _ _ (args .scan) (args .word .now) _ (called .move-on .ensures ∙ ap (λ (p : Phase). inPhase p (args .scan)) (called .before .pass .ensures))
-    (rw (c .before .before .before .before .before .before .before .asks .ensures) at (c .before .before .before .before .before .before .if1 .left))
-    (rw (c .before .before .before .before .before .stamp-of .ensures) at (c .before .before .before .before .if2 .left)) (rw level at (c .before .before .if3 .taken))
+    ∙ scan-change _ _ (args .scan) (args .word .now) _ goes (rw (c .before .before .before .before .before .before .asks .ensures) at (c .before .before .before .before .before .if1 .left))
+    (rw stamp at (c .before .before .before .before .if2 .left)) (rw level at (c .before .before .if3 .taken))
 
 returns-4 : tie.Need-returns-4
 returns-4 c =
-    let called = c .before .before .before .before .before .before in
+    let called = c .before .before .before .before .before in
     let args = called .before .before .before .before .before .args in
-    scan-rest _ _ (args .scan) (args .word .now) _ (called .move-on .ensures ∙ ap (λ (p : Phase). inPhase p (args .scan)) (called .before .pass .ensures))
-    (rw (c .before .before .before .before .before .asks .ensures) at (c .before .before .before .before .if1 .left))
-    (rw (c .before .before .before .stamp-of .ensures) at (c .before .before .if2 .left)) (rw (c .before .level-set .ensures) at (c .if3 .left))
+    let goes = called .move-on .ensures ∙ ap (λ (p : Phase). inPhase p (args .scan)) (called .before .pass-stamp .ensures) in
+    let stamp = called .before .before .before .before .before .pre .1 in
+    scan-rest _ _ (args .scan) (args .word .now) _ goes (rw (c .before .before .before .before .asks .ensures) at (c .before .before .before .if1 .left))
+    (rw stamp at (c .before .before .if2 .left)) (rw (c .before .level-set .ensures) at (c .if3 .left))
 
 pub scan-word-spec : {M : Type 1} → statement M
 scan-word-spec =
     tie.close
     (tie.spec
-    pass-requires
+    pass-stamp-requires
     move-on-requires
     asks-requires
     returns
-    stamp-of-requires
     cast-at-stamp
     at-stamp-requires
     returns-2

@@ -11,11 +11,8 @@ asks-requires c κs = search needs
 returns : tie.Need-returns
 returns c = simp (lt-leb _ _ (rw (c .before .asks .ensures) at (c .if1 .taken)))
 
-stamp-of-requires : tie.Need-stamp-of-requires
-stamp-of-requires c κs = search needs
-
 returns-2 : tie.Need-returns-2
-returns-2 c = simp (lt-leb _ _ (rw (c .before .stamp-of .ensures) at (c .if2 .taken)), le-leb _ _ (rw (c .before .before .before .asks .ensures) at (c .before .before .if1 .left)))
+returns-2 c = simp (lt-leb _ _ (c .if2 .taken), le-leb _ _ (rw (c .before .before .asks .ensures) at (c .before .if1 .left)))
 
 cast-ends-stamp : tie.Need-cast-ends-stamp
 cast-ends-stamp c = search needs
@@ -24,16 +21,9 @@ ends-stamp-requires : tie.Need-ends-stamp-requires
 ends-stamp-requires c κs = search needs
 
 returns-3 : tie.Need-returns-3
-returns-3 c = simp (c .ends-stamp .ensures, le-leb _ _ (rw (c .before .before .stamp-of .ensures) at (c .before .if2 .left)), c .before .before .stamp-of .ensures, le-leb _ _ (rw (c .before .before .before .before .asks .ensures) at (c .before .before .before .if1 .left)))
+returns-3 c = simp (c .ends-stamp .ensures, le-leb _ _ (c .before .if2 .left), le-leb _ _ (rw (c .before .before .before .asks .ensures) at (c .before .before .if1 .left)))
 
 pub ends-spec : {M : Type 1} → statement M
 ends-spec =
     tie.close
-    (tie.spec
-    asks-requires
-    returns
-    stamp-of-requires
-    returns-2
-    cast-ends-stamp
-    ends-stamp-requires
-    returns-3)
+    (tie.spec asks-requires returns returns-2 cast-ends-stamp ends-stamp-requires returns-3)

@@ -1,6 +1,8 @@
 -- `captures::session::walk` meets its contract. The invariant: the buffer keeps its length, and the words that are left, read and told from
 -- here, come to what the whole text comes to; a change that the table tells sets one line or none. The measure is what is left of the text.
 -- Assumes nothing.
+use mathlib.Core.Bool.{_&&_}
+use mathlib.Core.Logic.{⊎-elim}
 use mathlib.Core.Path.{_≡_, refl, ap, _∙_}
 use Prim.Native.Nat.{_≤_, _-_, ℕ}
 use native.Mathlib.Omega.{arith}
@@ -9,10 +11,11 @@ use borrow.Author.Needs.{needs}
 use Rattle.captures.specs.declared.falls.Tally.{Tally}
 use Rattle.captures.specs.declared.scan.Scan.{Scan}
 use Rattle.captures.specs.Words.{words}
-use Rattle.captures.specs.Falls.{blankScan, scannedBy, fallsFrom}
-use Rattle.captures.specs.Walk.{spansOf, told, telling, noTally, withLevels}
+use Rattle.captures.specs.Falls.{blankScan, scannedBy, falls, fallAt, fallsFrom}
+use Rattle.captures.specs.Walk.{spansOf, endsBy, told, telling, noTally, withLevels}
 use Rattle.captures.proofs.Laws.Words.{words-over}
 use Rattle.captures.proofs.Laws.Session.{scanned-step, scanned-end, told-step, told-end}
+use Rattle.captures.proofs.Laws.Tally.{told-ended, told-same}
 use Rattle.captures.proofs.Laws.Told.{set-one, set-none, set-step}
 use Rattle.captures.proofs.session.walk.Statement.{statement}
 use Rattle.captures.proofs.session.walk.Tie as tie
@@ -106,6 +109,9 @@ loop-again-2 c =
     let step = set-step (start .args .table .now) (words text) codes (start .pre) (loop .scan) _ _ (line .line-set .ensures) (omega (arith, none)) _ (told (loop .tally) (loop .out)) _ _ _ left (word .part .ensures) goes in
     (loop .inv .0, step .0 ∙ loop .inv .1, step .1 ∙ loop .inv .2, loop .inv .3)
 
+stamp-of-requires : tie.Need-stamp-of-requires Inv-loop μ-loop
+stamp-of-requires c κs = search needs
+
 ends-requires : tie.Need-ends-requires Inv-loop μ-loop
 ends-requires c κs = search needs
 
@@ -117,27 +123,32 @@ scan-word-requires c κs = search needs
 
 loop-less-3 : tie.Need-loop-less-3 Inv-loop μ-loop
 loop-less-3 c =
-    let word = c .before .before .before .before .before .before .before .before .before .before in
+    let word = c .before .before .before .before .before .before .before .before in
     omega (arith, word .word-end .ensures .further, word .before .loop-test .taken)
 
 loop-again-3 : tie.Need-loop-again-3 Inv-loop μ-loop
 loop-again-3 c =
-    let tell = c .before .before .before in
-    let ends = tell .before .before in
-    let word = ends .before .before .before .before in
+    let after = c .before in
+    let ends = after .before in
+    let word = ends .before .before .before .before .before in
     let left = word .before .word-end .ensures .stands in
-    let loop = word .before .before .before in (
-      tell .tell-end .kept .1 .1 .1 .0 ∙ loop .loop .inv .0,
-      scanned-step _ _ _ _ _ _ _ _ left (word .part .ensures) (c .scan-word .ensures) ∙ loop .loop .inv .1,
-      told-step _ _ _ _ _ _ _ _ _ _ _ left (word .part .ensures) (c .scan-word .ensures) (ends .ends .ensures) (tell .tell-end .ensures) ∙ loop .loop .inv .2,
-      loop .loop .inv .3,
+    let loop = word .before .before .before .loop in
+    let ended = ends .ends .ensures ∙ ap (endsBy (loop .scan)) (ends .before .stamp-of .ensures) in
+    let both : (length (after .if3 .out) ≡ length (loop .out))
+    × (told (after .if3 .tally) (after .if3 .out) ≡ telling (told (loop .tally) (loop .out)) (fallAt (ends .ends .result && falls (loop .scan)) (loop .scan))) =
+    ⊎-elim (λ came. (ap length (came .5) ∙ came .2 .kept .1 .1 .0, told-ended _ _ _ _ _ (loop .scan) _ (came .5) (came .6) (came .0 .taken) (came .2 .ensures)))
+    (λ came. (ap length (came .1), told-same _ _ _ _ (loop .scan) _ (came .1) (came .2) (came .0 .left))) (after .if3 .came) in (
+      both .0 ∙ loop .inv .0,
+      scanned-step _ _ _ _ _ _ _ _ left (word .part .ensures) (c .scan-word .ensures) ∙ loop .inv .1,
+      told-step _ _ _ _ _ _ _ _ _ _ _ left (word .part .ensures) (c .scan-word .ensures) ended (both .1) ∙ loop .inv .2,
+      loop .inv .3,
     )
 
 tell-end-requires-2 : tie.Need-tell-end-requires-2 Inv-loop μ-loop
 tell-end-requires-2 c κs = search needs
 
 same-length : tie.Need-same-length Inv-loop μ-loop
-same-length c = let tell = c .before .before in tell .tell-end2 .kept .1 .1 .1 .0 ∙ tell .before .before .before .loop .inv .0
+same-length c = let tell = c .before .before in tell .tell-end2 .kept .1 .1 .0 ∙ tell .before .before .before .loop .inv .0
 
 returns : tie.Need-returns Inv-loop μ-loop
 returns c =
@@ -166,6 +177,7 @@ walk-spec =
     loop-again
     loop-less-2
     loop-again-2
+    stamp-of-requires
     ends-requires
     tell-end-requires
     scan-word-requires
