@@ -14,7 +14,8 @@ use borrow.Author.Tests.{eq-eqb, ne-eqb, eqb-true, leb-true, le-leb}
 use Rattle.controller.proofs.Laws.Choice.{cond-elim, and-left, and-right}
 use Rattle.lines.specs.Digits.{between}
 use Rattle.captures.specs.declared.form.Phase.{Phase}
-use Rattle.captures.specs.declared.form.Phase.the-variants.{Section, Scale, ScaleUnit, ScopeKind, ScopeName, VarType, VarSize, VarCode, VarName, Close, Ending, Changes, Dump, Wrong}
+use Rattle.captures.specs.declared.form.Phase.the-variants.{Changes}
+use Rattle.captures.proofs.Laws.Over.{late-phase}
 use Rattle.captures.specs.Words.{Word, isEmpty, isPlain, same, is}
 use Rattle.captures.specs.Form.{stampLimit, noStamp, withDigit, numberOf, stampOf, levelOf, levelSet, asked, isChange, after, changing, past}
 
@@ -114,19 +115,9 @@ stamp-word (a ∷ b ∷ w) fits = go (eqb a (code "#")) refl fits
 -- where stamps come, one leaves us in the phase
 pub past-stamp : (phase : Phase) (w : Word) → asked phase ≡ 3 → stampOf w ≤ stampLimit → phase ≡ past phase w
 unfolding past after changing
-past-stamp Changes w comes fits =
+past-stamp phase w comes fits =
     let word = stamp-word w fits in
-    sym (simp (word .0, word .1, word .2, le-leb (stampOf w) stampLimit fits) (cond-elim (λ (p : Phase). p ≡ Changes) (isChange w) Changes Changes (λ _. refl) (λ _. refl)))
-past-stamp (Section scaled) w comes fits = absurd (omega arith)
-past-stamp Scale w comes fits = absurd (omega arith)
-past-stamp ScaleUnit w comes fits = absurd (omega arith)
-past-stamp (ScopeKind scaled) w comes fits = absurd (omega arith)
-past-stamp (ScopeName scaled) w comes fits = absurd (omega arith)
-past-stamp (VarType scaled) w comes fits = absurd (omega arith)
-past-stamp (VarSize scaled) w comes fits = absurd (omega arith)
-past-stamp (VarCode scaled) w comes fits = absurd (omega arith)
-past-stamp (VarName scaled) w comes fits = absurd (omega arith)
-past-stamp (Close scaled) w comes fits = absurd (omega arith)
-past-stamp Ending w comes fits = absurd (omega arith)
-past-stamp Dump w comes fits = absurd (omega arith)
-past-stamp Wrong w comes fits = absurd (omega arith)
+    late-phase (λ (p : Phase). asked p ≡ 3 → p ≡ past p w) phase (omega arith)
+    (λ here. sym (simp (word .0, word .1, word .2, le-leb (stampOf w) stampLimit fits)
+    (cond-elim (λ (p : Phase). p ≡ Changes) (isChange w) Changes Changes (λ _. refl) (λ _. refl))))
+    (λ here. absurd (omega arith)) comes

@@ -29,22 +29,26 @@ over Changes = true
 over Dump = true
 over Wrong = true
 
+-- where changes come, the phase is one of two
+pub late-phase : (P : Phase → Type 0) (phase : Phase) → 3 ≤ asked phase → P Changes → P Dump → P phase
+late-phase P (Section scaled) late changes dump = absurd (omega arith)
+late-phase P Scale late changes dump = absurd (omega arith)
+late-phase P ScaleUnit late changes dump = absurd (omega arith)
+late-phase P (ScopeKind scaled) late changes dump = absurd (omega arith)
+late-phase P (ScopeName scaled) late changes dump = absurd (omega arith)
+late-phase P (VarType scaled) late changes dump = absurd (omega arith)
+late-phase P (VarSize scaled) late changes dump = absurd (omega arith)
+late-phase P (VarCode scaled) late changes dump = absurd (omega arith)
+late-phase P (VarName scaled) late changes dump = absurd (omega arith)
+late-phase P (Close scaled) late changes dump = absurd (omega arith)
+late-phase P Ending late changes dump = absurd (omega arith)
+late-phase P Changes late changes dump = changes
+late-phase P Dump late changes dump = dump
+late-phase P Wrong late changes dump = absurd (omega arith)
+
 pub over-asked : (phase : Phase) → 3 ≤ asked phase → over phase ≡ true
 unfolding over
-over-asked (Section scaled) late = absurd (omega arith)
-over-asked Scale late = absurd (omega arith)
-over-asked ScaleUnit late = absurd (omega arith)
-over-asked (ScopeKind scaled) late = absurd (omega arith)
-over-asked (ScopeName scaled) late = absurd (omega arith)
-over-asked (VarType scaled) late = absurd (omega arith)
-over-asked (VarSize scaled) late = absurd (omega arith)
-over-asked (VarCode scaled) late = absurd (omega arith)
-over-asked (VarName scaled) late = absurd (omega arith)
-over-asked (Close scaled) late = absurd (omega arith)
-over-asked Ending late = absurd (omega arith)
-over-asked Changes late = refl
-over-asked Dump late = refl
-over-asked Wrong late = absurd (omega arith)
+over-asked phase late = late-phase (λ (p : Phase). over p ≡ true) phase late refl refl
 
 over-changing : (w : Word) (stamps : Bool) (next : Phase) → over next ≡ true → over (changing w stamps next) ≡ true
 unfolding changing over

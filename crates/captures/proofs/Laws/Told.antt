@@ -10,7 +10,7 @@ use lib.Dec.{eqb, ltb}
 use lib.ListN.{length, getD, set, drop, List·getD-eq-default}
 use borrow.Author.Tests.{ne-eqb, eqb-true, ltb-true, ltb-false, lt-ltb, leb-true, le-leb}
 use Rattle.captures.specs.declared.form.Phase.{Phase}
-use Rattle.captures.specs.declared.form.Phase.the-variants.{Section, Scale, ScaleUnit, ScopeKind, ScopeName, VarType, VarSize, VarCode, VarName, Close, Ending, Changes, Dump, Wrong}
+use Rattle.captures.specs.declared.form.Phase.the-variants.{Section}
 use Rattle.captures.specs.declared.scan.Scan.{Scan}
 use Rattle.captures.specs.Words.{Word, isEmpty, isPlain, same, is}
 use Rattle.captures.specs.Form.{asked, changesCome, isChange, after, changing, past, stampOf, noStamp, levelOf, levelSet}
@@ -18,6 +18,7 @@ use Rattle.captures.specs.Definitions.{declares}
 use Rattle.captures.specs.Falls.{ends, fallsFrom, altered, inPhase, scanned, scannedBy}
 use Rattle.captures.specs.Walk.{withLevels, Told, telling}
 use Rattle.captures.specs.Table.{shortCodes, placeOf, entryOf, lineSet, Tabled}
+use Rattle.captures.proofs.Laws.Over.{late-phase}
 use Rattle.captures.proofs.Laws.Form.{level-short, level-long, stamp-other}
 use Rattle.captures.proofs.Laws.Falls.{or-none, scan-change}
 use Rattle.captures.proofs.Laws.Tally.{end-none}
@@ -68,22 +69,10 @@ change-word (a ∷ b ∷ w) sets plain =
 -- where changes come, it leaves us in the phase
 past-change : (phase : Phase) (w : Word) → 3 ≤ asked phase → levelSet w < 3 → isPlain (drop 1 w) ≡ true → past phase w ≡ phase
 unfolding past after changing
-past-change Changes w late sets plain =
-    let word = change-word w sets plain in simp (word .some, word .plain, word .no-dump, lt-ltb (levelSet w) 3 sets)
-past-change Dump w late sets plain =
-    let word = change-word w sets plain in simp (word .some, word .plain, word .no-end, lt-ltb (levelSet w) 3 sets)
-past-change (Section scaled) w late sets plain = absurd (omega arith)
-past-change Scale w late sets plain = absurd (omega arith)
-past-change ScaleUnit w late sets plain = absurd (omega arith)
-past-change (ScopeKind scaled) w late sets plain = absurd (omega arith)
-past-change (ScopeName scaled) w late sets plain = absurd (omega arith)
-past-change (VarType scaled) w late sets plain = absurd (omega arith)
-past-change (VarSize scaled) w late sets plain = absurd (omega arith)
-past-change (VarCode scaled) w late sets plain = absurd (omega arith)
-past-change (VarName scaled) w late sets plain = absurd (omega arith)
-past-change (Close scaled) w late sets plain = absurd (omega arith)
-past-change Ending w late sets plain = absurd (omega arith)
-past-change Wrong w late sets plain = absurd (omega arith)
+past-change phase w late sets plain =
+    let word = change-word w sets plain in
+    late-phase (λ (p : Phase). past p w ≡ p) phase late
+    (simp (word .some, word .plain, word .no-dump, lt-ltb (levelSet w) 3 sets)) (simp (word .some, word .plain, word .no-end, lt-ltb (levelSet w) 3 sets))
 
 -- a change is no stamp
 no-stamp : (w : Word) → levelSet w < 3 → stampOf w ≡ noStamp
