@@ -12,9 +12,12 @@ use Rattle.captures.specs.declared.faults.Wrong.{Wrong}
 use Rattle.captures.specs.declared.form.Phase.{Phase}
 use Rattle.captures.specs.declared.form.Phase.the-variants as Phase
 use Rattle.captures.specs.Words.{Word, words, isEmpty}
-use Rattle.captures.specs.Form.{changesCome, isChange}
+use Rattle.captures.specs.declared.faults.Unknown.{Unknown}
+use Rattle.captures.specs.declared.scan.Scan.{Scan}
+use Rattle.captures.specs.Form.{changesCome, isChange, isStamp}
 use Rattle.captures.specs.Definitions.{Head, blankHead, defined, declares}
-use Rattle.captures.specs.Import.{headOf}
+use Rattle.captures.specs.Falls.{blankScan, ends, falls, scanned}
+use Rattle.captures.specs.Import.{headOf, unknownAt}
 
 -- No word can stand here any more.
 abbrev pub isWrong : Phase → Bool
@@ -66,3 +69,22 @@ wrongIn capture = wrongFrom (words capture) blankHead 0 (words capture)
 -- The needed signal of a line is not declared.
 unfoldable pub lacksLine : List ℕ → ℕ → Bool
 lacksLine capture line = ltb line 11 && isEmpty (getD (headOf capture .codes) line [])
+
+-- At a stamp's end: E falls, and a needed line is at x or z.
+abbrev pub fallsUnknown : Scan → Bool
+fallsUnknown scan = falls scan && unknownAt (scan .levels)
+
+-- Such a fall, or none: its stamp, where that stands in the text, and the levels of the lines.
+abbrev pub unknownOf : Bool → Scan → ℕ → Unknown
+unknownOf found scan at = record { found = found; place = at; stamp = scan .stamp; levels = scan .levels }
+
+-- The first such fall from here on, where the stamp before stands at a place and these words at another.
+unfoldable pub unknownFrom : List Word → List Word → Scan → ℕ → ℕ → List Word → Unknown
+unknownFrom all codes scan at place [] = unknownOf (fallsUnknown scan) scan at
+unknownFrom all codes scan at place (w ∷ ws) =
+    cond (ends scan w && fallsUnknown scan) (unknownOf true scan at)
+    (unknownFrom all codes (scanned all codes scan w) (cond (changesCome (scan .phase) && isStamp w) place at) (place + length w + 1) ws)
+
+-- The first such fall of a capture.
+abbrev pub unknownIn : List ℕ → Unknown
+unknownIn capture = unknownFrom (words capture) (headOf capture .codes) blankScan 0 0 (words capture)

@@ -6,8 +6,9 @@ use mathlib.Core.Path.{_≡_}
 use Prim.Native.Nat.{ℕ}
 use Rattle.lines.specs.declared.writer.Written.{Written}
 use Rattle.lines.specs.Writing.{Writes}
+use Rattle.captures.specs.declared.faults.Unknown.{Unknown}
 use Rattle.captures.specs.declared.faults.Wrong.{Wrong}
-use Rattle.captures.specs.Faults.{lacksLine, wrongIn}
+use Rattle.captures.specs.Faults.{lacksLine, unknownIn, wrongIn}
 use Rattle.captures.specs.Import.{importing}
 
 -- `import`: the answer, the length of the session's text and every byte of the buffer.
@@ -21,3 +22,7 @@ WrongWordPromise capture returned = returned ≡ wrongIn capture
 -- `lacks_signal`: whether a line's signal is not declared.
 abbrev pub LacksSignalPromise : List ℕ → ℕ → Bool → Type 0
 LacksSignalPromise capture line returned = returned ≡ lacksLine capture line
+
+-- `unknown_fall`: the first fall with x or z on a needed line.
+abbrev pub UnknownFallPromise : List ℕ → Unknown → Type 0
+UnknownFallPromise capture returned = returned ≡ unknownIn capture

@@ -94,7 +94,7 @@ fn bus_open(levels: [u8; 11]) -> bool
 }
 
 // Whether a needed line is at x or z; DB0 to DB7 for writes only.
-fn unknown_at(levels: [u8; 11]) -> bool
+pub fn unknown_at(levels: [u8; 11]) -> bool
     ensures { λ r. ⌜ r ≡ unknownAt levels ⌝ }
 {
     if levels[0] == 2 {

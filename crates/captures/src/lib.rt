@@ -9,7 +9,9 @@ mod table;
 mod words;
 
 pub use faults::Fault;
+pub use faults::Unknown;
 pub use faults::Wrong;
 pub use faults::lacks_signal;
+pub use faults::unknown_fall;
 pub use faults::wrong_word;
 pub use session::import;

@@ -41,7 +41,7 @@ pub struct Ended {
     pub tally: Tally,
 }
 
-fn blank_scan() -> Scan
+pub fn blank_scan() -> Scan
     ensures { λ r. ⌜ r ≡ blankScan ⌝ }
 {
     Scan {
@@ -66,7 +66,7 @@ fn no_tally() -> Tally
 }
 
 // Whether this is a stamp that ends the one before it.
-fn ends(scan: Scan, stamp: u64) -> bool
+pub fn ends(scan: Scan, stamp: u64) -> bool
     ensures { λ r. ⌜ r ≡ endsBy scan stamp ⌝ }
 {
     let phase = scan.phase;

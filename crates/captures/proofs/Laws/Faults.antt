@@ -5,18 +5,21 @@ use mathlib.Core.List.{List, [], _∷_}
 use mathlib.Core.Path.{_≡_, refl, sym, ap, _∙_}
 use Prim.Native.Nat.{ℕ, _+_, _-_, _<_, _≤_}
 use native.Mathlib.Omega.{arith}
-use lib.ListN.{length, drop, length-drop}
+use lib.ListN.{length, drop, getD, length-drop}
 use lib.Seq.{length-take-le}
-use borrow.Author.Tests.{le-leb, lt-ltb}
+use borrow.Author.Tests.{eq-eqb, le-leb, lt-ltb}
 use Rattle.captures.specs.declared.faults.Fault.{Fault}
 use Rattle.captures.specs.declared.faults.Fault.the-variants.{Unfinished}
 use Rattle.captures.specs.declared.faults.Wrong.{Wrong}
 use Rattle.captures.specs.declared.form.Phase.{Phase}
 use Rattle.captures.specs.declared.form.Phase.the-variants.{Section}
 use Rattle.captures.specs.Words.{Word, words}
-use Rattle.captures.specs.Form.{asked, levelSet}
+use Rattle.captures.specs.Form.{asked, changesCome, isStamp, levelSet}
 use Rattle.captures.specs.Definitions.{Head, defined, declares}
-use Rattle.captures.specs.Faults.{faultOf, faultWith, isUndeclared, isUnfinished, isWrong, wrongFrom}
+use Rattle.captures.specs.Faults.{fallsUnknown, faultOf, faultWith, isUndeclared, isUnfinished, isWrong, unknownFrom, unknownOf, wrongFrom}
+use Rattle.captures.specs.declared.scan.Scan.{Scan}
+use Rattle.captures.specs.Falls.{ends, scanned}
+use Rattle.captures.specs.Import.{unknownAt}
 use Rattle.captures.specs.Walk.{span}
 
 -- a change where one can come, by its code
@@ -60,3 +63,36 @@ module _ (all : List Word) (head next : Head) (place : ℕ) (left : List Word) (
 pub wrong-end : (all : List Word) (head : Head) (place : ℕ) (left : List Word) → left ≡ [] → record { fault = Unfinished; place = place } ≡ wrongFrom all head place left
 unfolding wrongFrom
 wrong-end all head place left is = sym (ap (wrongFrom all head place) is)
+
+-- E was 1 and is 0
+pub falls-then : (scan : Scan) (unknown : Bool) → scan .before ≡ 1 → getD (scan .levels) 2 0 ≡ 0 → unknown ≡ unknownAt (scan .levels) → unknown ≡ fallsUnknown scan
+falls-then scan unknown high low is = is ∙ sym (simp (eq-eqb (scan .before) 1 high, eq-eqb (getD (scan .levels) 2 0) 0 low))
+
+module _ (all codes : List Word) (scan : Scan) (at place : ℕ) (left : List Word) (v w : Word) (ws : List Word) (is : left ≡ w ∷ ws) (same-word : v ≡ w)
+    (test fallen : Bool) (by : test ≡ ends scan v) (by-fall : fallen ≡ fallsUnknown scan) where
+  tested : (b : Bool) → (test && fallen) ≡ b → (ends scan w && fallsUnknown scan) ≡ b
+  tested b e =
+      ap (λ (t : Bool). t && fallsUnknown scan) (sym (by ∙ ap (ends scan) same-word)) ∙ ap (λ (t : Bool). test && t) (sym by-fall) ∙ e
+
+  -- this stamp ends such a fall
+  pub unknown-here : (test && fallen) ≡ true → unknownOf true scan at ≡ unknownFrom all codes scan at place left
+  unfolding unknownFrom
+  unknown-here e = sym (ap (unknownFrom all codes scan at place) is ∙ simp (tested true e))
+
+  -- or it does not
+  pub unknown-next : (next : Scan) (then behind : ℕ) → (test && fallen) ≡ false → next ≡ scanned all codes scan v
+      → then ≡ cond (changesCome (scan .phase) && isStamp v) place at → behind ≡ place + length w + 1
+      → unknownFrom all codes next then behind ws ≡ unknownFrom all codes scan at place left
+  unfolding unknownFrom
+  unknown-next next then behind e goes holds further =
+      ap (λ (s : Scan). unknownFrom all codes s then behind ws) (goes ∙ ap (scanned all codes scan) same-word)
+      ∙ ap (λ (n : ℕ). unknownFrom all codes (scanned all codes scan w) n behind ws)
+      (holds ∙ ap (λ (u : Word). cond (changesCome (scan .phase) && isStamp u) place at) same-word)
+      ∙ ap (λ (n : ℕ). unknownFrom all codes (scanned all codes scan w) (cond (changesCome (scan .phase) && isStamp w) place at) n ws) further
+      ∙ sym (ap (unknownFrom all codes scan at place) is ∙ simp (tested false e))
+
+pub unknown-end : (all codes : List Word) (scan : Scan) (at place : ℕ) (left : List Word) (fallen : Bool) → left ≡ [] → fallen ≡ fallsUnknown scan
+    → unknownOf fallen scan at ≡ unknownFrom all codes scan at place left
+unfolding unknownFrom
+unknown-end all codes scan at place left fallen is by =
+    ap (λ (b : Bool). unknownOf b scan at) by ∙ sym (ap (unknownFrom all codes scan at place) is)
