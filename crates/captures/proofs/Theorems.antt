@@ -5,3 +5,4 @@ pub mod Unheeded
 pub mod Form
 pub mod Grammar
 pub mod Subset
+pub mod Faults

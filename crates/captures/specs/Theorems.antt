@@ -1,5 +1,6 @@
 -- What is proved of captures: each theorem is a type here, and its proof stands in proofs/Theorems (request b).
 -- Assumes nothing.
+use mathlib.Core.Bool.{false, true}
 use mathlib.Core.List.{List, [], _∷_, _++_}
 use mathlib.Core.Logic.{_⊎_}
 use mathlib.Core.Path.{_≡_}
@@ -10,7 +11,10 @@ use Rattle.lines.specs.declared.writer.Written.{Written}
 use Rattle.lines.specs.Text.{bytesOf}
 use Rattle.lines.specs.Writing.{Writes, writing}
 use Rattle.captures.specs.Falls.{Fall, levelAt}
-use Rattle.captures.specs.Import.{fallsOf, sessionText, importing}
+use Rattle.captures.specs.Form.{isWhole}
+use Rattle.captures.specs.Import.{fallsOf, inSubset, scanOf, sessionText, importing}
+use Rattle.captures.specs.Import as Import
+use Rattle.captures.specs.Faults.{isUnfinished, unknownIn, wrongIn}
 use Rattle.captures.specs.Grammar.{InSubset, Missing}
 
 -- One of these is so.
@@ -67,3 +71,10 @@ StampStartsAgain =
     (someDefinitions ++ bytesOf "#4294967289 0! 0w 1e 0a 0b 0c 1d 1# 1$ 0% 0& #4294967290 0e #29 1e #30 0e")
     (replicate 16 0)
     ≡ writing (bytesOf "I\t38\t0\nI\t38\t36\n")
+
+-- What the faults tell is so: where a word is at fault the text is outside the subset, where none is it lacks its end alone, and
+-- a fall with x or z is found exactly where there is one.
+pub record FaultsFound : Type 0 where
+  pub wrong : (capture : List ℕ) → isUnfinished (wrongIn capture .fault) ≡ false → inSubset capture ≡ false
+  pub unfinished : (capture : List ℕ) → isUnfinished (wrongIn capture .fault) ≡ true → inSubset capture ≡ isWhole (scanOf capture .phase)
+  pub unknown : (capture : List ℕ) → unknownIn capture .found ≡ Import.unknownIn (fallsOf capture)

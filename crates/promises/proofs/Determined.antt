@@ -72,6 +72,9 @@ each-determined =
       play = λ text out. two _ _ _ (record { told = refl; number = refl; buffer = refl }) (λ a l is. (is .told, is .buffer));
       play-through = λ text most. one _;
       import = λ capture out. two _ _ _ (record { told = refl; number = refl; buffer = refl }) (λ a l is. (is .told, is .buffer));
+      wrong-word = λ capture. one _;
+      lacks-signal = λ capture line. one _;
+      unknown-fall = λ capture. one _;
       draw = λ form rec mem size lit out. two _ _ _ (record { told = refl; number = refl; out = refl }) (λ a l is. (is .told, is .out));
       yaropesk-reset = λ bytes mem.
           three _ _ _ _ (record { told = refl; rec = refl; memory = refl }) (λ a b l is. (is .told, is .rec, is .memory));

@@ -20,7 +20,9 @@ use Rattle.lines.specs.declared.writer.Written.{Written}
 use Rattle.planner.specs.declared.call.Planned.{Planned}
 use Rattle.planner.specs.declared.wish.Wish.{Wish}
 use Rattle.player.specs.declared.through.Standing.{Standing}
-use Rattle.captures.specs.Promises.{ImportPromise}
+use Rattle.captures.specs.Promises.{ImportPromise, LacksSignalPromise, UnknownFallPromise, WrongWordPromise}
+use Rattle.captures.specs.declared.faults.Unknown.{Unknown}
+use Rattle.captures.specs.declared.faults.Wrong.{Wrong}
 use Rattle.controller.specs.Promises.{TransferPromise, TransferInPromise, ResetPromise, IsSoundPromise, NumberPromise}
 use Rattle.controller.specs.Promises.{IsWholePromise, IsBadPromise, IsDonePromise, IsRefusalPromise, AfterResetPromise}
 use Rattle.controller.specs.Promises.{AddressSetPromise, CellOfPromise, LittleEndianPromise, NumberFromPromise, SixBytesPromise}
@@ -86,6 +88,9 @@ pub record EachDetermined : Type 0 where
   pub play : (text out : List ℕ) → ExactlyOne (λ (x : Written × List ℕ). PlayPromise text out (x .0) (x .1))
   pub play-through : (text : List ℕ) (most : ℕ) → ExactlyOne (λ (x : Standing). PlayThroughPromise text most x)
   pub import : (capture out : List ℕ) → ExactlyOne (λ (x : Written × List ℕ). ImportPromise capture out (x .0) (x .1))
+  pub wrong-word : (capture : List ℕ) → ExactlyOne (λ (x : Wrong). WrongWordPromise capture x)
+  pub lacks-signal : (capture : List ℕ) (line : ℕ) → ExactlyOne (λ (x : Bool). LacksSignalPromise capture line x)
+  pub unknown-fall : (capture : List ℕ) → ExactlyOne (λ (x : Unknown). UnknownFallPromise capture x)
   pub draw : (form : Form) (rec : Record) (mem : List ℕ) (size : Size) (lit : Bool) (out : List ℕ)
       → ExactlyOne (λ (x : Written × List ℕ). DrawPromise form rec mem size lit out (x .0) (x .1))
   pub yaropesk-reset : (bytes mem : List ℕ)

@@ -2,7 +2,7 @@
 -- Assumes nothing.
 use mathlib.Core.Bool.{Bool, true, false, cond, not, _&&_, _||_}
 use mathlib.Core.List.{List, [], _∷_}
-use mathlib.Core.Path.{_≡_, refl, sym, ap, _∙_}
+use mathlib.Core.Path.{_≡_, sym, ap, _∙_}
 use Prim.Native.Nat.{ℕ, _+_, _-_, _<_, _≤_}
 use native.Mathlib.Omega.{arith}
 use lib.ListN.{length, drop, getD, length-drop}
@@ -10,10 +10,9 @@ use lib.Seq.{length-take-le}
 use borrow.Author.Tests.{eq-eqb, le-leb, lt-ltb}
 use Rattle.captures.specs.declared.faults.Fault.{Fault}
 use Rattle.captures.specs.declared.faults.Fault.the-variants.{Unfinished}
-use Rattle.captures.specs.declared.faults.Wrong.{Wrong}
 use Rattle.captures.specs.declared.form.Phase.{Phase}
 use Rattle.captures.specs.declared.form.Phase.the-variants.{Section}
-use Rattle.captures.specs.Words.{Word, words}
+use Rattle.captures.specs.Words.{Word}
 use Rattle.captures.specs.Form.{asked, changesCome, isStamp, levelSet}
 use Rattle.captures.specs.Definitions.{Head, defined, declares}
 use Rattle.captures.specs.Faults.{fallsUnknown, faultOf, faultWith, isUndeclared, isUnfinished, isWrong, unknownFrom, unknownOf, wrongFrom}

@@ -36,7 +36,7 @@ over-wrong (VarName scaled) is none = absurd (false≢true is)
 over-wrong (Close scaled) is none = absurd (false≢true is)
 over-wrong Ending is none = absurd (false≢true is)
 
-wrong-past : (w : Word) → past Wrong w ≡ Wrong
+pub wrong-past : (w : Word) → past Wrong w ≡ Wrong
 unfolding past after
 wrong-past w =
     cond-elim (λ (p : Phase). p ≡ Wrong) (isEmpty w) _ _ (λ _. refl) (λ _. cond-elim (λ (p : Phase). p ≡ Wrong) (isPlain w) _ _ (λ _. refl) (λ _. refl))

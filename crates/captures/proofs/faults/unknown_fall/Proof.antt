@@ -1,7 +1,6 @@
 -- `captures::faults::unknown_fall` meets its contract: the codes that were read are the definitions'. Assumes nothing.
 use Rattle.captures.specs.Faults.{unknownFrom}
 use Rattle.captures.specs.Words.{words}
-use Rattle.captures.specs.Definitions.{definedBy}
 use mathlib.Core.List.{List}
 use mathlib.Core.Path.{ap, _∙_}
 use borrow.Author.Needs.{needs}
