@@ -15,7 +15,8 @@ use Rattle.lines.proofs.Laws.Digits.{either}
 use Rattle.lines.proofs.Theorems.Read.{read-is-sayable}
 
 -- a line that stands has at least 7 bytes, all of them in the text
-pub line-long : (text : List ℕ) → isDone (lineOf text .answer) ≡ true → (7 ≤ lineOf text .length) × (lineOf text .length ≤ length text)
+pub line-long : (text : List ℕ) → isDone (lineOf text .answer) ≡ true
+    → (7 ≤ lineOf text .length) × (lineOf text .length ≤ length text)
 line-long text done =
     let is = read-is-sayable text (done-is (lineOf text .answer) done) in (is .1, is .3)
 
@@ -77,9 +78,11 @@ session-more (byte ∷ rest) some e =
     let less = length-drop (lineOf text .length) text in
     simp e
     (ap (following (sentOf (lineOf text)))
-    (read-fuel (length rest) (length (drop (lineOf text .length) text)) (drop (lineOf text .length) text) (omega arith) (omega arith)))
+    (read-fuel (length rest) (length (drop (lineOf text .length) text)) (drop (lineOf text .length) text)
+    (omega arith) (omega arith)))
 
-pub session-bad : (text : List ℕ) → 0 < length text → isDone (lineOf text .answer) ≡ false → sessionOf text ≡ endedBy (lineOf text .answer)
+pub session-bad : (text : List ℕ) → 0 < length text → isDone (lineOf text .answer) ≡ false
+    → sessionOf text ≡ endedBy (lineOf text .answer)
 unfolding sessionOf readUpTo
 session-bad [] some e = absurd (omega arith)
 session-bad (byte ∷ rest) some e = simp e

@@ -82,8 +82,12 @@ lines-of-session (suc k) (byte ∷ rest) enough done =
     let long = line-long text good .0 in
     let after = drop (lineOf text .length) text in
     let own = line-and-rest text good in
-    let later = lines-of-session k after (omega (arith, length-drop (lineOf text .length) text)) (ap (λ (s : Session). isDone (s .end)) (sym more) ∙ done) in
-    rw more ((own .0, later .0), own .1 ∙ ap (λ (l : List ℕ). line (lineOf text .kind) (lineOf text .byte) (lineOf text .wait) ++ l) (later .1)))
+    let later = lines-of-session k after (omega (arith, length-drop (lineOf text .length) text))
+    (ap (λ (s : Session). isDone (s .end)) (sym more) ∙ done) in
+    rw more (
+      (own .0, later .0),
+      own .1 ∙ ap (λ (l : List ℕ). line (lineOf text .kind) (lineOf text .byte) (lineOf text .wait) ++ l) (later .1),
+    ))
     (λ bad. absurd (false≢true (sym bad ∙ sym (ap (λ (s : Session). isDone (s .end)) (session-bad text some bad)) ∙ done)))
 
 -- the lines of transfers end well
