@@ -17,3 +17,4 @@ pub mod Changes
 pub mod Counted
 pub mod Stamps
 pub mod Faults
+pub mod MadeWalk

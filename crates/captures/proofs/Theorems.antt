@@ -6,3 +6,4 @@ pub mod Form
 pub mod Grammar
 pub mod Subset
 pub mod Faults
+pub mod Capture

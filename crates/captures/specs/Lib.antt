@@ -6,8 +6,9 @@ pub mod Import
 pub mod Walk
 pub mod Table
 pub mod Faults
-pub mod Promises
 pub mod Made
+pub mod MadeWalk
+pub mod Promises
 pub mod Unheeded
 pub mod Grammar
 pub mod Theorems

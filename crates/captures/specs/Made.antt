@@ -1,16 +1,20 @@
 -- A capture made from a session: one E pulse a transfer, up one microsecond before it falls (request b).
 -- Assumes nothing.
+use mathlib.Core.Bool.{cond}
 use mathlib.Core.List.{List, [], _∷_, _++_}
 use mathlib.Core.Path.{_≡_}
 use Prim.Native.Char.{code}
-use Prim.Native.Nat.{ℕ, _+_, _/_, _%_, _≤_}
+use Prim.Native.Nat.{ℕ, _+_, _*_, _/_, _%_, _≤_}
 use lib.ListN.{length, replicate}
+use Rattle.controller.specs.declared.answers.Answer.the-variants.{Done}
+use Rattle.controller.specs.Answers.{isDone}
 use Rattle.controller.specs.declared.sent.Sent.{Sent}
 use Rattle.lines.specs.Digits.{newline, digit, decimal}
 use Rattle.lines.specs.Line.{linesOf}
+use Rattle.lines.specs.Session.{sessionOf}
 use Rattle.lines.specs.Text.{bytesOf}
 use Rattle.lines.specs.Theorems.{AllSayable}
-use Rattle.lines.specs.Writing.{writing}
+use Rattle.lines.specs.Writing.{Writing, refusing, wanting, writing}
 use Rattle.captures.specs.Import.{importing}
 
 -- The definitions: RS, RW, E and DB0 to DB7 have the codes `a` to `k`.
@@ -49,9 +53,20 @@ unfoldable pub madePulses : ℕ → List Sent → List ℕ
 madePulses before [] = []
 madePulses before (t ∷ later) = madePulse (before + t .wait) t ++ madePulses (before + t .wait) later
 
--- A capture made from a session, whose first wait is 0: its first fall is at this stamp.
+-- A capture made from a session: its first fall is this long after its first wait, so at this stamp where that wait is 0.
 unfoldable pub captureOf : ℕ → List Sent → List ℕ
 captureOf first ts = madeHeader ++ madePulses first ts
+
+-- The capture of a session's text, its stamps from 0 on: the first rise is as late as the first wait is long, the fall one
+-- microsecond after it.
+unfoldable pub captureText : List ℕ → List ℕ
+captureText session = captureOf 1 (sessionOf session .sent)
+
+-- Capturing a session's text: refused by its bad line's answer, or by 11 where the buffer is shorter than the capture.
+unfoldable pub capturing : List ℕ → List ℕ → Writing
+capturing session out =
+    cond (isDone (sessionOf session .end)) (wanting (length (captureText session)) (captureText session) out)
+    (refusing (sessionOf session .end))
 
 -- Each of these waits is 2 or more, so that E is up again at a later stamp than that of the fall before.
 unfoldable pub LaterWaits : List Sent → Type 0
@@ -68,6 +83,35 @@ abbrev pub MadeImports : Type 0
 MadeImports =
     (first : ℕ) (ts : List Sent) (out : List ℕ) → Capturable ts → length (linesOf ts) ≤ length out
     → importing (captureOf first ts) out ≡ writing (linesOf ts)
+
+-- What capture writes of any such session imports as that session.
+abbrev pub CaptureImports : Type 0
+CaptureImports =
+    (ts : List Sent) (made out : List ℕ) → Capturable ts → length (captureText (linesOf ts)) ≤ length made
+    → length (linesOf ts) ≤ length out
+    → (capturing (linesOf ts) made .answer ≡ Done) × (importing (capturing (linesOf ts) made .text) out ≡ writing (linesOf ts))
+
+-- The same transfer, at once.
+abbrev pub atOnce : Sent → Sent
+atOnce t = record { kind = t .kind; byte = t .byte; wait = 0 }
+
+-- A first wait that is not 0 is in the capture's first stamp alone: an import gives 0 for it, and every later line as it was.
+abbrev pub FirstWaitDropped : Type 0
+FirstWaitDropped =
+    (t : Sent) (later : List Sent) (made out : List ℕ) → AllSayable (t ∷ later) → LaterWaits later
+    → length (captureText (linesOf (t ∷ later))) ≤ length made → length (linesOf (atOnce t ∷ later)) ≤ length out
+    → importing (capturing (linesOf (t ∷ later)) made .text) out ≡ writing (linesOf (atOnce t ∷ later))
+
+-- The definitions have 291 bytes, and a line of at least 7 bytes becomes a pulse of at most 60: so a buffer of nine bytes for
+-- each byte of the session, and 291 more, always serves.
+abbrev pub CaptureFits : Type 0
+CaptureFits = (session : List ℕ) → length (captureText session) ≤ 9 * length session + 291
+
+-- One line as it is captured: Function Set 38h at once, up at stamp 0 and down at 1.
+abbrev pub LineCaptured : Type 0
+LineCaptured =
+    captureText (bytesOf "I\t38\t0\n")
+    ≡ madeHeader ++ bytesOf "#0\n0a\n0b\n0d\n0e\n0f\n1g\n1h\n1i\n0j\n0k\n1c\n#1\n0c\n"
 
 -- A session of every kind, with the shortest wait.
 abbrev pub someSession : List Sent

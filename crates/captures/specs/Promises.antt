@@ -10,10 +10,15 @@ use Rattle.captures.specs.declared.faults.Unknown.{Unknown}
 use Rattle.captures.specs.declared.faults.Wrong.{Wrong}
 use Rattle.captures.specs.Faults.{lacksLine, unknownIn, wrongIn}
 use Rattle.captures.specs.Import.{importing}
+use Rattle.captures.specs.Made.{capturing}
 
 -- `import`: the answer, the length of the session's text and every byte of the buffer.
 abbrev pub ImportPromise : List ℕ → List ℕ → Written → List ℕ → Type 0
 ImportPromise capture out returned after = Writes (importing capture out) out returned after
+
+-- `capture`: the answer, the length of the capture and every byte of the buffer.
+abbrev pub CapturePromise : List ℕ → List ℕ → Written → List ℕ → Type 0
+CapturePromise session out returned after = Writes (capturing session out) out returned after
 
 -- `wrong_word`: the first word at fault, and where it begins.
 abbrev pub WrongWordPromise : List ℕ → Wrong → Type 0

@@ -8,7 +8,9 @@ use Prim.Native.Nat.{ℕ, _<_}
 use lib.ListN.{length, replicate}
 use Rattle.controller.specs.Answers.{numberOf, Row, Tells}
 use Rattle.lines.specs.declared.writer.Written.{Written}
+use Rattle.lines.specs.Session.{sessionOf}
 use Rattle.lines.specs.Text.{bytesOf}
+use Rattle.lines.specs.Theorems.{NoSession}
 use Rattle.lines.specs.Writing.{Writes, writing}
 use Rattle.captures.specs.Falls.{Fall, levelAt}
 use Rattle.captures.specs.Form.{isWhole}
@@ -16,6 +18,7 @@ use Rattle.captures.specs.Import.{fallsOf, inSubset, scanOf, sessionText
 use Rattle.captures.specs.Import as Import
 use Rattle.captures.specs.Faults.{isUnfinished, unknownIn, wrongIn}
 use Rattle.captures.specs.Grammar.{InSubset, Missing}
+use Rattle.captures.specs.Made.{captureText, capturing}
 
 -- One of these is so.
 unfoldable pub Some : {A : Type 0} → (A → Type 0) → List A → Type 0
@@ -41,6 +44,17 @@ importRows capture out =
 -- Each number is given exactly where its row applies and none before it in the order.
 abbrev pub ImportAnswers : Type 0
 ImportAnswers = (capture out : List ℕ) → Tells (numberOf (importing capture out .answer)) (importRows capture out)
+
+-- The rows of capture: the answer of the bad line where the text is no session, then 11, a buffer shorter than the capture.
+unfoldable pub captureRows : List ℕ → List ℕ → List Row
+captureRows session out =
+    record { number = numberOf (sessionOf session .end); applies = NoSession session }
+    ∷ record { number = 11; applies = length out < length (captureText session) }
+    ∷ []
+
+-- Each is given exactly where its row applies and none before it in the order.
+abbrev pub CaptureAnswers : Type 0
+CaptureAnswers = (session out : List ℕ) → Tells (numberOf (capturing session out .answer)) (captureRows session out)
 
 -- No second answer fits: two outcomes that both meet the promise are one, and so are the buffers.
 abbrev pub OneImport : Type 0

@@ -2,7 +2,7 @@
 ghost use mathlib.Core.Path.{_≡_};
 ghost use mathlib.Core.Bool.{false};
 ghost use mathlib.Core.List.{[]};
-ghost use Prim.Native.Nat.{_+_, _≤_};
+ghost use Prim.Native.Nat.{_+_, _<_, _≤_};
 ghost use lib.ListN.{length};
 ghost use Rattle.controller.specs.Bus.{badTransfer};
 ghost use Rattle.lines.specs.Line.{line};
@@ -125,8 +125,8 @@ fn since(tally: Tally, stamp: u32) -> u32
 }
 
 // A length more; past 2^63, which no buffer has, it stays.
-fn add_up(length: usize, more: usize) -> usize
-    requires { ⌜ more ≤ 16 ⌝ }
+pub fn add_up(length: usize, more: usize) -> usize
+    requires { ⌜ more < 9223372036854775808 ⌝ }
     ensures { λ r. ⌜ r ≡ longer length more ⌝ }
 {
     if length < 9_223_372_036_854_775_808 {

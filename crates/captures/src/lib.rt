@@ -1,8 +1,9 @@
-// A capture from the logic pod, Value Change Dump text, as a session's text. Request b).
+// A capture from the logic pod, Value Change Dump text, as a session's text, and a session's text as a capture. Request b).
 mod definitions;
 mod falls;
 mod faults;
 mod form;
+mod made;
 mod scan;
 mod session;
 mod table;
@@ -14,4 +15,5 @@ pub use faults::Wrong;
 pub use faults::lacks_signal;
 pub use faults::unknown_fall;
 pub use faults::wrong_word;
+pub use made::capture;
 pub use session::import;

@@ -28,6 +28,7 @@ use Rattle.lines.specs.declared.writer.Written.{Written}
 use Rattle.planner.proofs.Theorems.Plan.{planned-runs}
 use Rattle.planner.proofs.Theorems.Wish.{not-wishes, plan-answers, plan-refusals}
 use Rattle.captures.proofs.Theorems.Answers.{import-answers, import-nothing}
+use Rattle.captures.proofs.Theorems.Capture.{capture-answers, capture-nothing}
 use Rattle.player.proofs.Theorems.Ends.{bad-line-ends, through-answers}
 use Rattle.player.proofs.Theorems.One.{play-answers}
 use Rattle.player.specs.Report.{report, reportSize, playing}
@@ -49,6 +50,7 @@ each-answer =
       play = play-answers;
       through = through-answers;
       import = import-answers;
+      capture = capture-answers;
       draw = draw-answers;
       c-calls = call-answers;
     }
@@ -78,6 +80,7 @@ demand-1 =
       play = λ text out. leaves _ out (play-nothing text out);
       through = bad-line-ends;
       import = λ capture out. leaves _ out (import-nothing capture out);
+      capture = λ session out. leaves _ out (capture-nothing session out);
       draw = draw-refusals;
       c-calls = call-refusals;
     }

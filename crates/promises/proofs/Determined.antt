@@ -72,6 +72,8 @@ each-determined =
       play = λ text out. two _ _ _ (record { told = refl; number = refl; buffer = refl }) (λ a l is. (is .told, is .buffer));
       play-through = λ text most. one _;
       import = λ capture out. two _ _ _ (record { told = refl; number = refl; buffer = refl }) (λ a l is. (is .told, is .buffer));
+      capture = λ session out.
+          two _ _ _ (record { told = refl; number = refl; buffer = refl }) (λ a l is. (is .told, is .buffer));
       wrong-word = λ capture. one _;
       lacks-signal = λ capture line. one _;
       unknown-fall = λ capture. one _;

@@ -1,6 +1,6 @@
 -- "Each is given exactly where its row applies, in order": for each call and each number.
 -- Assumes nothing.
-use Rattle.captures.specs.Theorems.{ImportAnswers}
+use Rattle.captures.specs.Theorems.{ImportAnswers, CaptureAnswers}
 use Rattle.controller.specs.Theorems.{TransferAnswers, LoanAnswers, ResetAnswers}
 use Rattle.drawing.specs.Theorems.{DrawAnswers}
 use Rattle.dots.specs.Theorems.{PictureAnswers}
@@ -23,5 +23,6 @@ pub record EachAnswer : Type 0 where
   pub play : PlayAnswers
   pub through : ThroughAnswers
   pub import : ImportAnswers
+  pub capture : CaptureAnswers
   pub draw : DrawAnswers
   pub c-calls : CallAnswers

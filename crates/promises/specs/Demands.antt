@@ -4,6 +4,7 @@ use mathlib.Core.List.{List}
 use mathlib.Core.Path.{_≡_}
 use Prim.Native.Nat.{ℕ}
 use Rattle.captures.specs.Import.{importing}
+use Rattle.captures.specs.Made.{capturing}
 use Rattle.controller.specs.HalfRules.{HalfRules}
 use Rattle.controller.specs.Rules.{DataRules, HalvesMakeWhole, InstructionRules}
 use Rattle.controller.specs.Rules.{AddressSetGoes, ClearLeavesRest, ClearRunsRight, FunctionMovesNothing}
@@ -48,6 +49,7 @@ pub record Demand1 : Type 0 where
   pub play : (text out : List ℕ) → LeavesBuffer (playing text out) out
   pub through : BadLineEnds
   pub import : (capture out : List ℕ) → LeavesBuffer (importing capture out) out
+  pub capture : (session out : List ℕ) → LeavesBuffer (capturing session out) out
   pub draw : DrawRefusals
   pub c-calls : CallRefusals
 

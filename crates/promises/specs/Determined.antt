@@ -20,7 +20,7 @@ use Rattle.lines.specs.declared.writer.Written.{Written}
 use Rattle.planner.specs.declared.call.Planned.{Planned}
 use Rattle.planner.specs.declared.wish.Wish.{Wish}
 use Rattle.player.specs.declared.through.Standing.{Standing}
-use Rattle.captures.specs.Promises.{ImportPromise, LacksSignalPromise, UnknownFallPromise, WrongWordPromise}
+use Rattle.captures.specs.Promises.{ImportPromise, CapturePromise, LacksSignalPromise, UnknownFallPromise, WrongWordPromise}
 use Rattle.captures.specs.declared.faults.Unknown.{Unknown}
 use Rattle.captures.specs.declared.faults.Wrong.{Wrong}
 use Rattle.controller.specs.Promises.{TransferPromise, TransferInPromise, ResetPromise, IsSoundPromise, NumberPromise}
@@ -88,6 +88,7 @@ pub record EachDetermined : Type 0 where
   pub play : (text out : List ℕ) → ExactlyOne (λ (x : Written × List ℕ). PlayPromise text out (x .0) (x .1))
   pub play-through : (text : List ℕ) (most : ℕ) → ExactlyOne (λ (x : Standing). PlayThroughPromise text most x)
   pub import : (capture out : List ℕ) → ExactlyOne (λ (x : Written × List ℕ). ImportPromise capture out (x .0) (x .1))
+  pub capture : (session out : List ℕ) → ExactlyOne (λ (x : Written × List ℕ). CapturePromise session out (x .0) (x .1))
   pub wrong-word : (capture : List ℕ) → ExactlyOne (λ (x : Wrong). WrongWordPromise capture x)
   pub lacks-signal : (capture : List ℕ) (line : ℕ) → ExactlyOne (λ (x : Bool). LacksSignalPromise capture line x)
   pub unknown-fall : (capture : List ℕ) → ExactlyOne (λ (x : Unknown). UnknownFallPromise capture x)

@@ -66,6 +66,16 @@ put-cons p byte rest =
     put-past (p .at) (p .out) (byte ∷ rest) past
     ∙ sym (ap (λ (q : Put). putting q rest) (put-past (p .at) (p .out) (byte ∷ []) past) ∙ put-past (p .at) (p .out) rest past))
 
+-- one text put after another is both put at once
+put-append : (p : Put) (a b : List ℕ) → putting (putting p a) b ≡ putting p (a ++ b)
+put-append p [] b = ap (λ (q : Put). putting q b) (put-none p)
+put-append p (byte ∷ a) b =
+    ap (λ (q : Put). putting q b) (put-cons p byte a) ∙ put-append (putting p (byte ∷ [])) a b ∙ sym (put-cons p byte (a ++ b))
+
+-- a text put, and another after it
+pub put-next : (p : Put) {q r : Put} (a b : List ℕ) → q ≡ putting p a → r ≡ putting q b → r ≡ putting p (a ++ b)
+put-next p a b first second = second ∙ ap (λ (x : Put). putting x b) first ∙ put-append p a b
+
 -- a text written at the start is what stands there first
 pub first-written : (text out : List ℕ) → length text ≤ length out → take (length text) (sets out 0 text) ≡ text
 first-written text out fits = ap (take (length text)) (sets-onto text out fits) ∙ take-append-seam text (drop (length text) out)
