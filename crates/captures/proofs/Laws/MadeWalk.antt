@@ -9,8 +9,8 @@ use Prim.Native.Nat.{ℕ, _+_, _-_, _%_, _<_, _≤_}
 use native.Mathlib.Omega.{arith}
 use borrow.Author.Tests.{ltb-false, lt-ltb, le-ltb}
 use lib.Dec.{ltb}
-use lib.ListN.{length, take, drop, replicate, length-append, length-drop, drop-of-length-le}
-use lib.Seq.{sets, drop-drop, take-all, length-sets}
+use lib.ListN.{length, take, drop, replicate, length-append, drop-of-length-le}
+use lib.Seq.{sets, drop-drop, length-sets}
 use Rattle.controller.specs.declared.answers.Answer.{Answer}
 use Rattle.controller.specs.declared.answers.Answer.the-variants.{Done, OutputShort}
 use Rattle.controller.specs.declared.sent.Sent.{Sent}
@@ -23,7 +23,7 @@ use Rattle.lines.specs.Text.{Put, put, putting}
 use Rattle.lines.specs.Writing.{Writes, onto, refusing, wanting, writing, writtenOf}
 use Rattle.lines.proofs.Laws.Buffer.{sets-append, sets-next, sets-onto, put-next, put-whole, first-written}
 use Rattle.lines.proofs.Laws.Digits.{decimal-length}
-use Rattle.lines.proofs.Laws.Session.{line-long, session-none, session-more, session-bad}
+use Rattle.lines.proofs.Laws.Session.{line-at, more-text, done-at, session-none, session-more, session-bad}
 use Rattle.captures.specs.Made.{madeHeader, madeStamp, madeChange, madeLines, madePulse, madePulses}
 use Rattle.captures.specs.Made.{captureOf, captureText, capturing}
 use Rattle.captures.specs.MadeWalk.{pulseSize, Making, making, adding, addingPulses, begun, Captured}
@@ -142,27 +142,12 @@ text-over {session} {stamp = stamp} {m = m} left over =
 
 module _ (session : List ℕ) (whole : Making) (from stamp : ℕ) (m : Making) (left : Left session whole from stamp m)
     (some : from < length session) {line : Line} (read : line ≡ lineOf (take (length session - from) (drop from session))) where
-  is-line : line ≡ lineOf (drop from session)
-  is-line = read ∙ ap lineOf (take-all (length session - from) (drop from session) (omega (arith, length-drop from session)))
-
-  more-text : 0 < length (drop from session)
-  more-text = omega (arith, length-drop from session)
-
-  own : {b : Bool} → isDone (line .answer) ≡ b → isDone (lineOf (drop from session) .answer) ≡ b
-  own is = ap (λ (l : Line). isDone (l .answer)) (sym is-line) ∙ is
-
-  -- a line that stands has at least 7 bytes, all of them in the text
-  pub line-inside : isDone (line .answer) ≡ true → (7 ≤ line .length) × (from + line .length ≤ length session)
-  line-inside good =
-      let long = line-long (drop from session) (own good) in
-      let size : line .length ≡ lineOf (drop from session) .length = ap (λ (l : Line). l .length) is-line in
-      (omega arith, omega (arith, length-drop from session))
-
   -- a bad line ends the session
   pub line-stops : isDone (line .answer) ≡ false → (line .answer ≡ sessionOf session .end) × (m ≡ whole)
   unfolding addingPulses
   line-stops bad =
-      let ended = session-bad (drop from session) more-text (own bad) ∙ ap (λ (l : Line). endedBy (l .answer)) (sym is-line) in (
+      let ended = session-bad (drop from session) (more-text session from some read) (done-at session from some read bad)
+      ∙ ap (λ (l : Line). endedBy (l .answer)) (sym (line-at session from some read)) in (
         sym (ap (λ (s : Session). s .end) ended) ∙ left .ends,
         sym (ap (λ (s : Session). addingPulses m stamp (s .sent)) ended) ∙ left .made,
       )
@@ -177,8 +162,9 @@ module _ (session : List ℕ) (whole : Making) (from stamp : ℕ) (m : Making) (
       let t = sentOf line in
       let rest = sessionOf (drop (from + line .length) session) in
       let goes : sessionOf (drop from session) ≡ following t rest =
-      session-more (drop from session) more-text (own good)
-      ∙ ap (λ (l : Line). following (sentOf l) (sessionOf (drop (l .length) (drop from session)))) (sym is-line)
+      session-more (drop from session) (more-text session from some read) (done-at session from some read good)
+      ∙ ap (λ (l : Line). following (sentOf l) (sessionOf (drop (l .length) (drop from session))))
+      (sym (line-at session from some read))
       ∙ ap (λ (l : List ℕ). following t (sessionOf l)) (drop-drop (line .length) from session) in
       let same : next % 4294967296 ≡ (stamp + line .wait) % 4294967296 = omega (arith, stamps) in
       let one : making size after ≡ adding m (madePulse (stamp + line .wait) t) =

@@ -1,14 +1,16 @@
 -- Laws of a session's text: line by line, up to its end, a bad line or so many lines.
 -- Assumes nothing.
-use mathlib.Core.Bool.{true, false}
+use mathlib.Core.Bool.{Bool, true, false}
 use mathlib.Core.List.{List, [], _∷_}
-use mathlib.Core.Path.{_≡_, refl, ap}
-use Prim.Native.Nat.{ℕ, zero, suc, _<_, _≤_}
+use mathlib.Core.Path.{_≡_, refl, sym, ap, _∙_}
+use Prim.Native.Nat.{ℕ, zero, suc, _+_, _-_, _<_, _≤_}
 use native.Mathlib.Omega.{arith}
-use lib.ListN.{length, drop, length-drop}
+use lib.ListN.{length, take, drop, length-drop}
+use lib.Seq.{take-all}
 use Rattle.controller.specs.declared.answers.Answer.the-variants.{Done}
 use Rattle.controller.specs.Answers.{isDone}
 use Rattle.controller.proofs.Laws.Answers.{done-is}
+use Rattle.lines.specs.declared.reader.Line.{Line}
 use Rattle.lines.specs.Reading.{lineOf}
 use Rattle.lines.specs.Session.{endedBy, following, sentOf, readUpTo, sessionOf}
 use Rattle.lines.proofs.Laws.Digits.{either}
@@ -19,6 +21,25 @@ pub line-long : (text : List ℕ) → isDone (lineOf text .answer) ≡ true
     → (7 ≤ lineOf text .length) × (lineOf text .length ≤ length text)
 line-long text done =
     let is = read-is-sayable text (done-is (lineOf text .answer) done) in (is .1, is .3)
+
+-- the line at a place of a text, read from the part from there on
+module _ (text : List ℕ) (from : ℕ) (some : from < length text) {line : Line}
+    (read : line ≡ lineOf (take (length text - from) (drop from text))) where
+  pub line-at : line ≡ lineOf (drop from text)
+  line-at = read ∙ ap lineOf (take-all (length text - from) (drop from text) (omega (arith, length-drop from text)))
+
+  pub more-text : 0 < length (drop from text)
+  more-text = omega (arith, length-drop from text)
+
+  pub done-at : {test : Bool} → isDone (line .answer) ≡ test → isDone (lineOf (drop from text) .answer) ≡ test
+  done-at is = ap (λ (l : Line). isDone (l .answer)) (sym line-at) ∙ is
+
+  -- where it stands, it lies in the text
+  pub line-inside : isDone (line .answer) ≡ true → (7 ≤ line .length) × (from + line .length ≤ length text)
+  line-inside good =
+      let long = line-long (drop from text) (done-at good) in
+      let size : line .length ≡ lineOf (drop from text) .length = ap (λ (l : Line). l .length) line-at in
+      (omega arith, omega (arith, length-drop from text))
 
 pub read-none : (most : ℕ) → readUpTo most [] ≡ endedBy Done
 unfolding readUpTo

@@ -27,7 +27,7 @@ use Rattle.lines.specs.Writing.{onto, writing, wanting, Writes}
 use Rattle.lines.specs.Session.{Session, endedBy, following, sentOf, readUpTo, sessionOf}
 use Rattle.lines.proofs.Laws.Lengths.{row-fits}
 use Rattle.lines.proofs.Laws.Buffer.{sets-append, sets-next, sets-onto}
-use Rattle.lines.proofs.Laws.Session.{line-long, read-none, read-enough, read-more, read-bad, read-all}
+use Rattle.lines.proofs.Laws.Session.{line-at, more-text, done-at, line-inside, read-none, read-enough, read-more, read-bad, read-all}
 use Rattle.player.specs.declared.walk.Ended.{Ended}
 use Rattle.player.specs.declared.walk.Place.{Place}
 use Rattle.player.specs.declared.tally.Tally.{Tally}
@@ -134,20 +134,13 @@ room-row false at text enough = enough
 module _ {rows : Bool} {text : List ℕ} {place : Place} {out : List ℕ} (fits : HasRoom rows text out place) (some : place .from < length text)
     {line : Line} (read : line ≡ lineOf (take (length text - place .from) (drop (place .from) text))) where
   is-line : line ≡ lineOf (drop (place .from) text)
-  is-line = read ∙ ap lineOf (tail text (place .from))
+  is-line = line-at text (place .from) some read
 
-  more-text : 0 < length (drop (place .from) text)
-  more-text = omega (arith, length-drop (place .from) text)
+  more : 0 < length (drop (place .from) text)
+  more = more-text text (place .from) some read
 
   own : {b : Bool} → isDone (line .answer) ≡ b → isDone (lineOf (drop (place .from) text) .answer) ≡ b
-  own is = ap (λ (l : Line). isDone (l .answer)) (sym is-line) ∙ is
-
-  -- a line that stands has at least 7 bytes, all of them in the text
-  pub line-inside : isDone (line .answer) ≡ true → (7 ≤ line .length) × (place .from + line .length ≤ length text)
-  line-inside good =
-      let long = line-long (drop (place .from) text) (own good) in
-      let size : line .length ≡ lineOf (drop (place .from) text) .length = ap (λ (l : Line). l .length) is-line in
-      (omega arith, omega (arith, length-drop (place .from) text))
+  own is = done-at text (place .from) some read is
 
   -- a bad line ends the walk
   pub line-stops : {mem : List ℕ} {at : ℕ} {out′ : List ℕ} → isDone (line .answer) ≡ false
@@ -159,7 +152,7 @@ module _ {rows : Bool} {text : List ℕ} {place : Place} {out : List ℕ} (fits 
         goes = λ good. absurd (false≢true (sym bad ∙ good));
         stops = λ _ k. walked-bad rows place mem out (line .answer) bad tells
             ∙ ap (λ (l : Line). walked rows place mem out (endedBy (l .answer))) is-line
-            ∙ ap (walked rows place mem out) (sym (read-bad k (drop (place .from) text) more-text (own bad)));
+            ∙ ap (walked rows place mem out) (sym (read-bad k (drop (place .from) text) more (own bad)));
       }
 
   -- a line that stands carries it on
@@ -173,7 +166,7 @@ module _ {rows : Bool} {text : List ℕ} {place : Place} {out : List ℕ} (fits 
         place = record { from = place .from + line .length; at = at; number = place .number + 1; rec = told .rec; tally = tally };
       }) mem′ out′
   line-goes {mem} {told} {mem′} {at} {out′} {tally} good performs tells refused =
-      let inside = line-inside good in
+      let inside = line-inside text (place .from) some read good in
       let left = place .from + line .length in
       let next : Place = record { from = left; at = at; number = place .number + 1; rec = told .rec; tally = tally } in
       let less : length text - place .from - line .length ≡ length text - left = omega arith in
@@ -191,7 +184,7 @@ module _ {rows : Bool} {text : List ℕ} {place : Place} {out : List ℕ} (fits 
               ∙ walked-more rows place mem out (sentOf line) (readUpTo k (drop (line .length) (drop (place .from) text))) next refl
               (simp (performs .told, performs .memory)) (rw (performs .told) at refused) (rw (performs .told) at tells)
               ∙ ap (λ (l : Line). walked rows place mem out (following (sentOf l) (readUpTo k (drop (l .length) (drop (place .from) text))))) is-line
-              ∙ ap (walked rows place mem out) (sym (read-more k (drop (place .from) text) more-text (own good)));
+              ∙ ap (walked rows place mem out) (sym (read-more k (drop (place .from) text) more (own good)));
         };
         stops = λ bad. absurd (false≢true (sym bad ∙ good));
       }

@@ -9,9 +9,10 @@ use borrow.Author.Needs.{needs}
 use borrow.Author.Tests.{not-true, not-false}
 use Rattle.lines.specs.Session.{sessionOf}
 use Rattle.lines.specs.Text.{put, putting}
+use Rattle.lines.proofs.Laws.Session.{line-inside}
 use Rattle.captures.specs.Made.{madePulse}
 use Rattle.captures.specs.MadeWalk.{making, addingPulses}
-use Rattle.captures.proofs.Laws.MadeWalk.{Left, captured, line-inside, line-stops, line-goes, text-over}
+use Rattle.captures.proofs.Laws.MadeWalk.{Left, captured, line-stops, line-goes, text-over}
 use Rattle.captures.proofs.made.walk.Statement.{statement}
 use Rattle.captures.proofs.made.walk.Tie as tie
 
@@ -81,7 +82,8 @@ add-from c =
     let turn = read .before .before in
     let loop = turn .before in
     let good = sym (test .before .is-done .ensures) ∙ not-false _ (test .if1 .left) in
-    let inside = line-inside _ _ _ _ _ (loop .loop .inv .2) (turn .loop-test .taken) (read .read-line .ensures) good in
+    let session = loop .before .before .before .before .before .before .before .args .session .now in
+    let inside = line-inside session (loop .loop .from) (turn .loop-test .taken) (read .read-line .ensures) good in
     omega (arith, inside .1, loop .loop .inv .1)
 
 loop-less : tie.Need-loop-less Inv-loop μ-loop
@@ -93,7 +95,8 @@ loop-less c =
     let turn = read .before .before in
     let loop = turn .before in
     let good = sym (test .before .is-done .ensures) ∙ not-false _ (test .if1 .left) in
-    let inside = line-inside _ _ _ _ _ (loop .loop .inv .2) (turn .loop-test .taken) (read .read-line .ensures) good in
+    let session = loop .before .before .before .before .before .before .before .args .session .now in
+    let inside = line-inside session (loop .loop .from) (turn .loop-test .taken) (read .read-line .ensures) good in
     omega (arith, inside .0, turn .loop-test .taken)
 
 loop-again : tie.Need-loop-again Inv-loop μ-loop
@@ -105,7 +108,8 @@ loop-again c =
     let turn = read .before .before in
     let loop = turn .before in
     let good = sym (test .before .is-done .ensures) ∙ not-false _ (test .if1 .left) in
-    let inside = line-inside _ _ _ _ _ (loop .loop .inv .2) (turn .loop-test .taken) (read .read-line .ensures) good in
+    let session = loop .before .before .before .before .before .before .before .args .session .now in
+    let inside = line-inside session (loop .loop .from) (turn .loop-test .taken) (read .read-line .ensures) good in
     let sent = ap (madePulse (wraps .wrapping-add-u32 .result)) (pulse .before .before .sent-of .ensures) in (
       pulse .put-pulse .kept .1 .1 .0 ∙ loop .loop .inv .0,
       loop .loop .inv .1,

@@ -5,7 +5,8 @@ use Prim.Native.Nat.{_^_, _<_}
 use lib.ListN.{length}
 use native.Mathlib.Omega.{arith}
 use borrow.Author.Tests.{not-true, not-false}
-use Rattle.player.proofs.Laws.Walk.{room-row, line-inside, line-stops, line-goes}
+use Rattle.lines.proofs.Laws.Session.{line-inside}
+use Rattle.player.proofs.Laws.Walk.{room-row, line-stops, line-goes}
 use borrow.Author.Needs.{needs}
 use Rattle.player.proofs.walk.play_line.Statement.{statement}
 use Rattle.player.proofs.walk.play_line.Tie as tie
@@ -50,7 +51,7 @@ add-t18 : tie.Need-add-t18
 add-t18 c =
     let start = c .before .before .before .before .before .before .before .before .before .before .before .before .before .before .before .before .before .before .before .before in
     let good = sym (c .before .before .before .before .before .before .before .before .before .before .before .before .before .before .is-done .ensures) ∙ not-false _ (c .before .before .before .before .before .before .before .before .before .before .before .before .before .if1 .left) in
-    let inside = line-inside (start .pre .0) (start .pre .1) (c .before .before .before .before .before .before .before .before .before .before .before .before .before .before .before .read-line .ensures) good .1 in
+    let inside = line-inside (start .args .text .now) (start .args .place .from) (start .pre .1) (c .before .before .before .before .before .before .before .before .before .before .before .before .before .before .before .read-line .ensures) good .1 in
     let few : length (start .args .text .now) < 2 ^ 64 = omega arith in
     omega arith
 
