@@ -10,6 +10,7 @@ suite=yaropesk
 . tests/common.sh
 is_built target/bin/session session
 is_built target/bin/glass glass
+is_built target/bin/capture capture
 
 # The script that is run.
 script=$root/yaropesk
@@ -70,7 +71,7 @@ readme_block() {
 }
 
 # Where a file has changed since the programs were built they are proved here, for minutes, and that is told.
-for name in session glass; do
+for name in session glass capture; do
     timeout 600 "$script" "$name" < /dev/null > /dev/null 2>&1
 done
 
@@ -86,6 +87,15 @@ run glass - 20 2 < examples/hello.session
 writes 'glass - 20 2 < FILE' tests/glass/hello_20x2.out
 run glass examples/accounts_kept.session --cells
 writes 'glass FILE --cells' tests/glass/accounts_kept.out
+run capture examples/hello.session
+writes 'capture FILE' tests/capture/hello.out
+run capture < examples/hello.session
+writes 'capture < FILE' tests/capture/hello.out
+# Pulses that run into each other are told, so that the status is 1, and the capture is written.
+run capture examples/p11.session
+same 'capture FILE with close waits' "$work/got" tests/capture/p11.out
+same 'capture FILE with close waits: told' "$work/errors" tests/capture/p11.errors
+ends_with 'capture FILE with close waits' 1
 
 # A file beside the caller, who stands in another folder; its name has a blank.
 cp examples/p11.session "$work/a session"
@@ -117,6 +127,8 @@ run ../crates/session
 turns_down 'a path' 'yaropesk: no program is called ../crates/session'
 run session examples/p11.session 20 2
 turns_down 'session FILE 20 2' 'yaropesk: words too many for session: 20 2'
+run capture examples/hello.session 20 2
+turns_down 'capture FILE 20 2' 'yaropesk: words too many for capture: 20 2'
 for name in font_sheet cuts vectors; do
     run "$name" examples/p11.session
     turns_down "$name FILE" "yaropesk: words too many for $name: examples/p11.session"
@@ -150,7 +162,7 @@ ends_with --help 0
 sed -n 's/^| `\.\/yaropesk \([a-z_]*\)[^|]*| \([^;([]*[^;([ ]\).*/\1 \2/p' README.md | sort > "$work/want"
 sed -e '1,/^$/d' -e '/^$/,$d' "$work/got" | sed 's/  */ /' > "$work/named"
 same '--help: the programs' "$work/named"
-for name in session glass font_sheet cuts vectors; do
+for name in session glass capture font_sheet cuts vectors; do
     run "$name" --help
     quiet "$name --help"
     ends_with "$name --help" 0

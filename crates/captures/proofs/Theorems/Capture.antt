@@ -11,7 +11,7 @@ use lib.Dec.{ltb}
 use lib.ListN.{length, drop, length-append, length-drop}
 use Rattle.controller.specs.declared.sent.Sent.{Sent}
 use Rattle.controller.specs.Answers.{isDone, numberOf}
-use Rattle.controller.proofs.Laws.Answers.{none-applies, row-applies, tells-as}
+use Rattle.controller.proofs.Laws.Answers.{done-is, none-applies, row-applies, tells-as}
 use Rattle.controller.proofs.Laws.Choice.{cond-elim}
 use Rattle.controller.proofs.Laws.Tests.{tests-lt}
 use Rattle.lines.specs.Line.{linesOf}
@@ -118,3 +118,15 @@ unfolding captureText captureOf madeHeader
 capture-fits session =
     let pulses = madePulses 1 (sessionOf session .sent) in
     omega (arith, length-append madeHeader pulses, pulses-fit (length session) 1 session (omega arith))
+
+-- so in such a buffer a bad line alone is refused
+pub capture-ends : (session out : List ℕ) → 9 * length session + 291 ≤ length out
+    → capturing session out .answer ≡ sessionOf session .end
+unfolding capturing wanting
+capture-ends session out enough =
+    let fits = capture-fits session in
+    either (isDone (sessionOf session .end))
+    (λ good.
+    simp (good, le-ltb (length out) (length (captureText session)) (omega arith))
+    (sym (done-is (sessionOf session .end) good)))
+    (λ bad. simp bad)
