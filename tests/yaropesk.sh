@@ -11,6 +11,7 @@ suite=yaropesk
 is_built target/bin/session session
 is_built target/bin/glass glass
 is_built target/bin/capture capture
+is_built target/bin/import import
 
 # The script that is run.
 script=$root/yaropesk
@@ -71,7 +72,7 @@ readme_block() {
 }
 
 # Where a file has changed since the programs were built they are proved here, for minutes, and that is told.
-for name in session glass capture; do
+for name in session glass capture import; do
     timeout 600 "$script" "$name" < /dev/null > /dev/null 2>&1
 done
 
@@ -96,6 +97,15 @@ run capture examples/p11.session
 same 'capture FILE with close waits' "$work/got" tests/capture/p11.out
 same 'capture FILE with close waits: told' "$work/errors" tests/capture/p11.errors
 ends_with 'capture FILE with close waits' 1
+run import examples/pod_p11.vcd
+writes 'import FILE' examples/pod_p11.session
+run import < examples/pod_wires.vcd
+writes 'import < FILE' examples/pod_wires.session
+# A refused capture is told, and nothing is written.
+run import tests/import/missing.in
+same 'import of a refused capture' "$work/got" /dev/null
+same 'import of a refused capture: told' "$work/errors" tests/import/missing.errors
+ends_with 'import of a refused capture' 1
 
 # A file beside the caller, who stands in another folder; its name has a blank.
 cp examples/p11.session "$work/a session"
@@ -162,7 +172,7 @@ ends_with --help 0
 sed -n 's/^| `\.\/yaropesk \([a-z_]*\)[^|]*| \([^;([]*[^;([ ]\).*/\1 \2/p' README.md | sort > "$work/want"
 sed -e '1,/^$/d' -e '/^$/,$d' "$work/got" | sed 's/  */ /' > "$work/named"
 same '--help: the programs' "$work/named"
-for name in session glass capture font_sheet cuts vectors; do
+for name in session glass capture import font_sheet cuts vectors; do
     run "$name" --help
     quiet "$name --help"
     ends_with "$name --help" 0
