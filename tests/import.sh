@@ -40,7 +40,8 @@ reads() {
 
 # 2,097,152 bytes, the longest that is taken: what the reads leave is blank.
 { cat "$work/head"; reads 80000; } > "$work/full"
-awk -v rest=$((2097152 - $(wc -c < "$work/full"))) 'BEGIN { for (i = 1; i <= rest; i++) printf " " }' >> "$work/full"
+rest=$((2097152 - $(wc -c < "$work/full")))
+awk -v rest="$rest" 'BEGIN { for (i = 1; i <= rest; i++) printf " " }' >> "$work/full"
 [ "$(wc -c < "$work/full")" -eq 2097152 ]
 count 'the full capture has 2,097,152 bytes' $?
 awk 'BEGIN { print "S\t00\t0"; for (i = 2; i <= 80000; i++) print "S\t00\t2" }' > "$work/want"
