@@ -6,4 +6,5 @@ pub mod Form
 pub mod Grammar
 pub mod Subset
 pub mod Faults
+pub mod Fits
 pub mod Capture

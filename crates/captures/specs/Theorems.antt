@@ -4,7 +4,7 @@ use mathlib.Core.Bool.{false, true}
 use mathlib.Core.List.{List, [], _∷_, _++_}
 use mathlib.Core.Logic.{_⊎_}
 use mathlib.Core.Path.{_≡_}
-use Prim.Native.Nat.{ℕ, _<_}
+use Prim.Native.Nat.{ℕ, _+_, _*_, _<_, _≤_}
 use lib.ListN.{length, replicate}
 use Rattle.controller.specs.Answers.{numberOf, Row, Tells}
 use Rattle.lines.specs.declared.writer.Written.{Written}
@@ -92,3 +92,8 @@ pub record FaultsFound : Type 0 where
   pub wrong : (capture : List ℕ) → isUnfinished (wrongIn capture .fault) ≡ false → inSubset capture ≡ false
   pub unfinished : (capture : List ℕ) → isUnfinished (wrongIn capture .fault) ≡ true → inSubset capture ≡ isWhole (scanOf capture .phase)
   pub unknown : (capture : List ℕ) → unknownIn capture .found ≡ Import.unknownIn (fallsOf capture)
+
+-- A transfer takes 12 bytes of a capture at least, two stamps and two changes of E, and its line has 16 at most: so the session's
+-- text has at most 4 bytes for each 3 of the capture, and 6 more.
+abbrev pub ImportFits : Type 0
+ImportFits = (capture : List ℕ) → 3 * length (sessionText capture) ≤ 4 * length capture + 16

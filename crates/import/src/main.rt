@@ -16,7 +16,7 @@ const LIMIT: usize = 2_097_152;
 
 const INPUT: usize = LIMIT + 1;
 
-// The longest session of such a capture: a transfer takes 12 bytes of it at least, and its line 16 at most.
+// The longest session of such a capture: 4 bytes for each 3 of it, and some more (`ImportFits`).
 const OUTPUT: usize = LIMIT / 3 * 4 + 16;
 
 fn print(text: &[u8]) {
