@@ -82,7 +82,8 @@ unfoldable pub unknownFrom : List Word → List Word → Scan → ℕ → ℕ �
 unknownFrom all codes scan at place [] = unknownOf (fallsUnknown scan) scan at
 unknownFrom all codes scan at place (w ∷ ws) =
     cond (ends scan w && fallsUnknown scan) (unknownOf true scan at)
-    (unknownFrom all codes (scanned all codes scan w) (cond (changesCome (scan .phase) && isStamp w) place at) (place + length w + 1) ws)
+    (unknownFrom all codes (scanned all codes scan w) (cond (changesCome (scan .phase) && isStamp w) place at)
+    (place + length w + 1) ws)
 
 -- The first such fall of a capture.
 abbrev pub unknownIn : List ℕ → Unknown

@@ -34,7 +34,8 @@ pub data Sections : Bool → List Word → Type 0 where
   scope : (scaled : Bool) (kind name : Word) (ws : List Word) → isScopeKind kind ≡ true → NotEnd name → Sections scaled ws
       → Sections scaled (bytesOf "$scope" ∷ kind ∷ name ∷ bytesOf "$end" ∷ ws)
   upscope : (scaled : Bool) (ws : List Word) → Sections scaled ws → Sections scaled (bytesOf "$upscope" ∷ bytesOf "$end" ∷ ws)
-  var : (scaled : Bool) (type code name : Word) (ws : List Word) → isVarType type ≡ true → NotEnd code → NotEnd name → Sections scaled ws
+  var : (scaled : Bool) (type code name : Word) (ws : List Word) → isVarType type ≡ true → NotEnd code → NotEnd name
+      → Sections scaled ws
       → Sections scaled (bytesOf "$var" ∷ type ∷ bytesOf "1" ∷ code ∷ name ∷ bytesOf "$end" ∷ ws)
   over : (ws : List Word) → Later false ws → Sections true (bytesOf "$enddefinitions" ∷ bytesOf "$end" ∷ ws)
 

@@ -90,7 +90,8 @@ StampStartsAgain =
 -- a fall with x or z is found exactly where there is one.
 pub record FaultsFound : Type 0 where
   pub wrong : (capture : List ℕ) → isUnfinished (wrongIn capture .fault) ≡ false → inSubset capture ≡ false
-  pub unfinished : (capture : List ℕ) → isUnfinished (wrongIn capture .fault) ≡ true → inSubset capture ≡ isWhole (scanOf capture .phase)
+  pub unfinished : (capture : List ℕ) → isUnfinished (wrongIn capture .fault) ≡ true
+      → inSubset capture ≡ isWhole (scanOf capture .phase)
   pub unknown : (capture : List ℕ) → unknownIn capture .found ≡ Import.unknownIn (fallsOf capture)
 
 -- A transfer takes 12 bytes of a capture at least, two stamps and two changes of E, and its line has 16 at most: so the session's

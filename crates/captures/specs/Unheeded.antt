@@ -93,6 +93,8 @@ AllOneForm (w ∷ ws) (v ∷ vs) = OneForm w v × AllOneForm ws vs
 -- 14 looks at the text's form alone: neither at the buffer nor, behind the definitions, at the levels, and so not at 28. Nor does
 -- 15, which looks at the definitions alone.
 pub record FormAlone : Type 0 where
-  pub buffer : (capture out other : List ℕ) → importing capture out .answer ≡ OutsideSubset → importing capture other .answer ≡ OutsideSubset
-  pub levels : (a b : List ℕ) (start x y : List Word) → GoOn a b start x y → changesCome (phaseAfter start) ≡ true → AllOneForm x y
+  pub buffer : (capture out other : List ℕ) → importing capture out .answer ≡ OutsideSubset
+      → importing capture other .answer ≡ OutsideSubset
+  pub levels : (a b : List ℕ) (start x y : List Word) → GoOn a b start x y → changesCome (phaseAfter start) ≡ true
+      → AllOneForm x y
       → (inSubset a ≡ inSubset b) × (isMissing a ≡ isMissing b)

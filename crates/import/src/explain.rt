@@ -141,10 +141,15 @@ fn put_wrong(out: &mut [u8], at: usize, capture: &[u8]) -> usize {
         ),
         Fault::Misplaced => {
             let told = put_word(out, parted, word_at(capture, wrong.place));
-            put_text(
+            let shut = put_text(
                 out,
                 told,
-                b" cannot stand there. Read are $timescale 1 us, $scope, $var of size 1, $upscope and $enddefinitions, each with its $end, then stamps, changes of scalars and $dumpvars.",
+                b" cannot stand there. Read are $timescale 1 us, $scope, $var of size 1, $upscope and $enddefinitions, ",
+            );
+            put_text(
+                out,
+                shut,
+                b"each with its $end, then stamps, changes of scalars and $dumpvars.",
             )
         }
         Fault::Twice => {

@@ -1,22 +1,21 @@
 -- How long a session's text can be: what E still needs for its next fall, counted in bytes of the capture.
 -- Assumes nothing.
-use mathlib.Core.Bool.{Bool, true, false, cond, not, _&&_, false≢true}
+use mathlib.Core.Bool.{Bool, true, false, cond, _&&_, false≢true}
 use mathlib.Core.List.{List, [], _∷_, _++_}
-use mathlib.Core.Path.{_≡_, refl, sym, ap, subst, _∙_}
-use Prim.Native.Nat.{ℕ, _+_, _*_, _-_, _%_, _≤_, _<_}
+use mathlib.Core.Path.{_≡_, refl, ap, _∙_}
+use Prim.Native.Nat.{ℕ, _+_, _*_, _-_, _≤_}
 use native.Mathlib.Omega.{arith}
 use lib.Dec.{eqb}
 use lib.ListN.{length, drop, length-append}
 use borrow.Author.Tests.{eqb-true}
-use Rattle.controller.specs.declared.sent.Sent.{Sent}
-use Rattle.controller.proofs.Laws.Choice.{and-left, and-right, cond-elim}
+use Rattle.controller.proofs.Laws.Choice.{and-left, and-right}
 use Rattle.lines.specs.Line.{line, linesOf}
 use Rattle.lines.proofs.Laws.Digits.{either}
 use Rattle.lines.proofs.Theorems.Written.{lines-fit}
 use Rattle.captures.specs.declared.scan.Scan.{Scan}
 use Rattle.captures.specs.Words.{Word, isBlank, joined, words}
-use Rattle.captures.specs.Form.{changesCome, isChange, isStamp, levelSet, past, stampOf}
-use Rattle.captures.specs.Falls.{Fall, altered, blankScan, changed, ends, endsStamp, fallAt, falls, fallsFrom, inPhase, levelAt, moved, scanned, stamped}
+use Rattle.captures.specs.Form.{changesCome, isChange, isStamp, levelSet, stampOf}
+use Rattle.captures.specs.Falls.{Fall, blankScan, changed, ends, endsStamp, fallAt, falls, fallsFrom, levelAt, moved, scanned, stamped}
 use Rattle.captures.specs.Import.{fallsOf, headOf, sentAt, sentBy, sentFrom, sessionText, waitFrom}
 use Rattle.captures.specs.Theorems.{ImportFits}
 use Rattle.captures.proofs.Laws.Changes.{no-end-tells, no-stamp-tells}
