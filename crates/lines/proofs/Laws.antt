@@ -3,6 +3,7 @@ pub mod Digits
 pub mod Steps
 pub mod Lengths
 pub mod Waits
+pub mod Fields
 pub mod Kinds
 pub mod Nothing
 pub mod Session

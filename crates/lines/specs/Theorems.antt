@@ -5,9 +5,9 @@ use mathlib.Core.Bool.{false}
 use mathlib.Core.List.{List, [], _∷_, _++_}
 use mathlib.Core.Logic.{_⊎_}
 use mathlib.Core.Path.{_≡_}
-use Prim.Native.Nat.{ℕ, _<_, _≤_}
+use Prim.Native.Nat.{ℕ, _+_, _<_, _≤_}
 use lib.ListN.{length, take}
-use Rattle.controller.specs.declared.answers.Answer.the-variants.{Done}
+use Rattle.controller.specs.declared.answers.Answer.the-variants.{Done, BadLine}
 use Rattle.controller.specs.declared.sent.Sent.{Sent}
 use Rattle.controller.specs.Bus.{badTransfer}
 use Rattle.controller.specs.Answers.{numberOf, Row, Tells}
@@ -15,7 +15,7 @@ use Rattle.controller.specs.Rows.{NoTransfer}
 use Rattle.lines.specs.declared.reader.Line.{Line}
 use Rattle.lines.specs.declared.writer.Written.{Written}
 use Rattle.lines.specs.Line.{line, linesOf, waitLimit}
-use Rattle.lines.specs.Reading.{lineOf, badLine}
+use Rattle.lines.specs.Reading.{lineOf, refusedLine}
 use Rattle.lines.specs.Session.{sessionOf}
 use Rattle.lines.specs.Writing.{Writing, Writes, writing, wanting, lineWriting}
 
@@ -41,7 +41,8 @@ pub record Starts (text : List ℕ) : Type 0 where
 
 -- The line of a transfer as it is read.
 abbrev pub lineRead : ℕ → ℕ → ℕ → Line
-lineRead kind byte wait = record { answer = Done; kind = kind; byte = byte; wait = wait; length = length (line kind byte wait) }
+lineRead kind byte wait =
+    record { answer = Done; kind = kind; byte = byte; wait = wait; length = length (line kind byte wait); offset = 0 }
 
 -- What was written reads back as the same transfer, with any text after it.
 abbrev pub WrittenReadsBack : Type 0
@@ -67,9 +68,33 @@ OneReading =
     → line kind byte wait ++ more ≡ line kind′ byte′ wait′ ++ more′
     → (kind ≡ kind′) × (byte ≡ byte′) × (wait ≡ wait′) × (more ≡ more′)
 
--- The reader: 12, and zeros for all that it returns, exactly where no line stands at the start of the text.
+-- The reader: 12, and zeros for all but the offset, exactly where no line stands at the start of the text.
 abbrev pub ReaderAnswers : Type 0
-ReaderAnswers = (text : List ℕ) → (Starts text × (lineOf text .answer ≡ Done)) ⊎ ((Starts text → ⊥) × (lineOf text ≡ badLine))
+ReaderAnswers =
+    (text : List ℕ)
+    → (Starts text × (lineOf text .answer ≡ Done))
+    ⊎ ((Starts text → ⊥) × (lineOf text ≡ refusedLine BadLine (lineOf text .offset)))
+
+-- A text can be completed to one that starts with a line.
+pub record Completes (text : List ℕ) : Type 0 where
+  pub more : List ℕ
+  pub starts : Starts (text ++ more)
+
+-- The offset of the first byte that cannot stand: the bytes before it can be completed to a line; with it, where the text goes
+-- on, they cannot; and where the text ends early it can itself be completed.
+pub record FirstFault (text : List ℕ) (offset : ℕ) : Type 0 where
+  pub inside : offset ≤ length text
+  pub before : Completes (take offset text)
+  pub there : offset < length text → Completes (take (offset + 1) text) → ⊥
+  pub early : offset ≡ length text → Completes text
+
+-- So it is with the offset of every text that is refused.
+abbrev pub FirstThatCannotStand : Type 0
+FirstThatCannotStand = (text : List ℕ) → (lineOf text .answer ≡ Done → ⊥) → FirstFault text (lineOf text .offset)
+
+-- And no other number is such an offset of the text.
+abbrev pub OneOffset : Type 0
+OneOffset = (text : List ℕ) (a b : ℕ) → FirstFault text a → FirstFault text b → a ≡ b
 
 -- What is read is a transfer that a line can say, and its line has 7 to 16 bytes, all of them in the text.
 abbrev pub ReadIsSayable : Type 0

@@ -1,29 +1,37 @@
-// Reading a session line, part by part: kind, byte, wait, ending.
+// Reading a session line from the left, field by field: kind, byte, wait, ending. Its fault is the first byte that cannot stand.
+// Document 01, "Session lines"; document 02, c).
 ghost use mathlib.Core.Path.{_≡_};
 ghost use Prim.Native.Nat.{_<_, _≤_};
 ghost use lib.ListN.{drop};
 ghost use Rattle.lines.specs.Line.{waitLimit};
 ghost use Rattle.lines.specs.Promises.{ReadLinePromise};
-ghost use Rattle.lines.specs.Reading.{badLine, byteStands, kindStands, lineFrom, mayFollow, restOf, textAt, waitOf};
-ghost use Rattle.lines.specs.Reading.{withWait};
+ghost use Rattle.lines.specs.Reading.{byteRead, digitStands, kindRead, mayFollow, refusedLine, restOf, textAt, waitOf};
+ghost use Rattle.lines.specs.Reading.{withByte, withWait};
 use crate::digits::kind_of;
 use crate::digits::worth_of;
 use controller::Answer;
-use controller::is_bad;
 
-// A line as it was read: the transfer, and the line's length. A refusal has zeros for all of it.
+// A line as it was read: the transfer and the line's length. A refusal has zeros for all of that, and the offset of the first
+// byte that cannot stand, or the text's length where it ends early.
 pub struct Line {
     pub answer: Answer,
     pub kind: u8,
     pub byte: u8,
     pub wait: u32,
     pub length: usize,
+    pub offset: usize,
 }
 
-// A wait as it was read, with the length of the line that it ends.
+// What a field says, or its fault: the answer, and the place of the first byte that cannot stand.
+pub enum Field {
+    Stands(u8),
+    Fault(Answer, usize),
+}
+
+// A wait as it was read, with the length of the line that it ends, or its fault.
 pub enum Wait {
     Good(u32, usize),
-    Bad,
+    Bad(Answer, usize),
 }
 
 // The byte at a place, and 00h past the end.
@@ -36,25 +44,51 @@ fn text_at(text: &[u8], place: usize) -> u8
     0
 }
 
-fn kind_stands(text: &[u8]) -> bool
-    ensures { λ r. ⌜ r ≡ kindStands (now (text .entry)) ⌝ }
+// The kind: its letter, and its tab.
+fn read_kind(text: &[u8]) -> Field
+    ensures { λ r. ⌜ r ≡ kindRead (now (text .entry)) ⌝ }
 {
-    kind_of(text_at(text, 0)) < 4 && text_at(text, 1) == b'\t'
+    let kind = kind_of(text_at(text, 0));
+    if 3 < kind {
+        return Field::Fault(Answer::BadLine, 0);
+    }
+    if text_at(text, 1) != b'\t' {
+        return Field::Fault(Answer::BadLine, 1);
+    }
+    Field::Stands(kind)
 }
 
-fn byte_stands(text: &[u8]) -> bool
-    ensures { λ r. ⌜ r ≡ byteStands (now (text .entry)) ⌝ }
+// Whether a digit may stand in the byte of this kind: `S` and `R` carry 00.
+fn digit_stands(kind: u8, worth: u8) -> bool
+    ensures { λ r. ⌜ r ≡ digitStands kind worth ⌝ }
 {
-    worth_of(text_at(text, 2)) < 16
-        && (worth_of(text_at(text, 3)) < 16 && text_at(text, 4) == b'\t')
+    worth < 16 && (kind < 2 || worth == 0)
 }
 
-// Whether a digit may follow digits of this value.
+// The byte: its two digits, and its tab.
+fn read_byte(kind: u8, text: &[u8]) -> Field
+    ensures { λ r. ⌜ r ≡ byteRead kind (now (text .entry)) ⌝ }
+{
+    let high = worth_of(text_at(text, 2));
+    if !digit_stands(kind, high) {
+        return Field::Fault(Answer::BadLine, 2);
+    }
+    let low = worth_of(text_at(text, 3));
+    if !digit_stands(kind, low) {
+        return Field::Fault(Answer::BadLine, 3);
+    }
+    if text_at(text, 4) != b'\t' {
+        return Field::Fault(Answer::BadLine, 4);
+    }
+    Field::Stands(high * 16 + low)
+}
+
+// Whether a digit may follow digits of this value: not after a leading zero, and not past the limit.
 fn may_follow(value: u64, worth: u8) -> bool
     requires { ⌜ value ≤ waitLimit ⌝ }
     ensures { λ r. ⌜ r ≡ mayFollow value worth ⌝ }
 {
-    0 < value && (worth < 10 && value * 10 + worth as u64 <= 4_294_967_295)
+    0 < value && value * 10 + worth as u64 <= 4_294_967_295
 }
 
 // The wait's digits after the first, and the newline.
@@ -70,34 +104,39 @@ fn read_rest(text: &[u8], first: u8) -> Wait
             return Wait::Good(value as u32, place + 1);
         }
         let worth = worth_of(byte);
+        if 9 < worth {
+            return Wait::Bad(Answer::BadLine, place);
+        }
         if !may_follow(value, worth) {
-            return Wait::Bad;
+            return Wait::Bad(Answer::BadLine, place);
         }
         value = value * 10 + worth as u64;
         place += 1;
     }
-    Wait::Bad
+    Wait::Bad(Answer::BadLine, place)
 }
 
+// The wait: a first digit, and its rest.
 fn read_wait(text: &[u8]) -> Wait
     ensures { λ r. ⌜ r ≡ waitOf (now (text .entry)) ⌝ }
 {
     let first = worth_of(text_at(text, 5));
-    if first < 10 {
-        return read_rest(text, first);
+    if 9 < first {
+        return Wait::Bad(Answer::BadLine, 5);
     }
-    Wait::Bad
+    read_rest(text, first)
 }
 
-fn bad_line() -> Line
-    ensures { λ r. ⌜ r ≡ badLine ⌝ }
+fn refused_line(answer: Answer, place: usize) -> Line
+    ensures { λ r. ⌜ r ≡ refusedLine answer place ⌝ }
 {
     Line {
-        answer: Answer::BadLine,
+        answer,
         kind: 0,
         byte: 0,
         wait: 0,
         length: 0,
+        offset: place,
     }
 }
 
@@ -111,33 +150,28 @@ fn with_wait(kind: u8, byte: u8, wait: Wait) -> Line
             byte,
             wait,
             length,
+            offset: 0,
         },
-        Wait::Bad => bad_line(),
+        Wait::Bad(answer, place) => refused_line(answer, place),
     }
 }
 
-// `S` and `R` carry 00.
-fn line_from(kind: u8, byte: u8, text: &[u8]) -> Line
-    ensures { λ r. ⌜ r ≡ lineFrom kind byte (now (text .entry)) ⌝ }
+fn with_byte(kind: u8, byte: Field, text: &[u8]) -> Line
+    ensures { λ r. ⌜ r ≡ withByte kind byte (now (text .entry)) ⌝ }
 {
-    if is_bad(kind, byte) {
-        return bad_line();
+    match byte {
+        Field::Stands(byte) => with_wait(kind, byte, read_wait(text)),
+        Field::Fault(answer, place) => refused_line(answer, place),
     }
-    with_wait(kind, byte, read_wait(text))
 }
 
-// The line at the start of the text.
+// The line at the start of the text, or its first fault from the left.
 pub fn read_line(text: &[u8]) -> Line
     ensures { λ r. ⌜ ReadLinePromise (now (text .entry)) r ⌝ }
 {
-    if !kind_stands(text) {
-        return bad_line();
+    let kind = read_kind(text);
+    match kind {
+        Field::Stands(kind) => with_byte(kind, read_byte(kind, text), text),
+        Field::Fault(answer, place) => refused_line(answer, place),
     }
-    if !byte_stands(text) {
-        return bad_line();
-    }
-    let kind = kind_of(text_at(text, 0));
-    let high = worth_of(text_at(text, 2));
-    let low = worth_of(text_at(text, 3));
-    line_from(kind, high * 16 + low, text)
 }

@@ -11,7 +11,7 @@ use lib.Dec.{eqb, ltb}
 use lib.ListN.{length}
 use borrow.Author.Tests.{not-false}
 use Rattle.controller.specs.declared.answers.Answer.{Answer}
-use Rattle.controller.specs.declared.answers.Answer.the-variants.{Done, NotWhole, NotWish}
+use Rattle.controller.specs.declared.answers.Answer.the-variants.{Done, NotWhole, BadLine, NotWish}
 use Rattle.controller.specs.declared.«record».Record.{Record}
 use Rattle.controller.specs.Bus.{decided, resetDecided, whole}
 use Rattle.controller.specs.Answers.{numberOf, Given, Row, Tells}
@@ -30,7 +30,7 @@ use Rattle.dots.specs.Picture.{answered}
 use Rattle.dots.specs.Theorems.{pictureRows, rowsFor}
 use Rattle.dots.proofs.Theorems.{picture-answers}
 use Rattle.lines.specs.declared.reader.Line.{Line}
-use Rattle.lines.specs.Reading.{badLine, lineOf}
+use Rattle.lines.specs.Reading.{lineOf, refusedLine}
 use Rattle.lines.specs.Theorems.{writerRows}
 use Rattle.lines.specs.Writing.{lineWriting}
 use Rattle.lines.proofs.Laws.Digits.{either}
@@ -188,9 +188,9 @@ stored-number line out done =
     (cond-map (λ (call : Filling). answerIn (call .returned)) (ltb (length out) 6) _ _ 11 0 (λ _. refl) (λ _. answer-in Done (line .length)))
 
 -- and one that was not
-bad-number : (line : Line) (out : List ℕ) → line ≡ badLine → answerIn (stored line out .returned) ≡ 12
+bad-number : (line : Line) (place : ℕ) (out : List ℕ) → line ≡ refusedLine BadLine place → answerIn (stored line out .returned) ≡ 12
 unfolding stored
-bad-number line out bad = rw bad refl
+bad-number line place out bad = rw bad refl
 
 read-tells : (text out : List ℕ) → Tells (answerIn (stored (lineOf text) out .returned)) (readRows text out)
 unfolding readRows
@@ -201,7 +201,7 @@ read-tells text out =
     (row-applies _ _ false _ (record { yes = λ e. absurd (false≢true e); no = λ _ none. none (good .0) })
     (λ _. row-applies _ _ _ _ (tests-lt (length out) 6) (λ _. none-applies))))
     (λ bad.
-    tells-as _ _ _ (bad-number (lineOf text) out (bad .1))
+    tells-as _ _ _ (bad-number (lineOf text) (lineOf text .offset) out (bad .1))
     (row-applies _ _ true 0 (record { yes = λ _. bad .0; no = λ e _. true≢false e }) (λ never. absurd (never (bad .0)))))
     (reader-answers text)
 

@@ -1,33 +1,41 @@
 -- Laws of waits: decimal digits are read as their number, and digits that were read are those of the number.
 -- Assumes nothing.
 use mathlib.Core.Bool.{true, false, cond}
-use mathlib.Core.List.{List, [], _∷_, _++_, append-assoc}
+use mathlib.Core.List.{List, [], _∷_, _++_, append-assoc, append-nil}
 use mathlib.Core.Path.{_≡_, refl, sym, ap, _∙_}
 use Prim.Native.Nat.{ℕ, zero, suc, _+_, _*_, _/_, _%_, _<_, _≤_}
 use native.Mathlib.Omega.{arith}
-use borrow.Author.Tests.{ltb-true, ltb-false, eqb-true, lt-ltb, le-leb, ne-eqb}
+use borrow.Author.Tests.{ltb-true, ltb-false, eqb-true, lt-ltb, le-ltb, le-leb, ne-eqb}
 use lib.Dec.{ltb, eqb}
-use lib.ListN.{length, drop, length-append}
+use lib.ListN.{length, take, drop, length-append}
+use lib.Seq.{drop-drop, getD-drop, length-take-le, take-at}
+use Rattle.controller.specs.declared.answers.Answer.{Answer}
+use Rattle.controller.specs.declared.answers.Answer.the-variants.{BadLine}
 use Rattle.lines.specs.declared.reader.Wait.{Wait}
 use Rattle.lines.specs.declared.reader.Wait.the-variants.{Good, Bad}
-use Rattle.lines.specs.Digits.{newline, digit, worthOf, decimal}
+use Rattle.lines.specs.Digits.{newline, digit, worthOf, decimal, numberField}
 use Rattle.lines.specs.Line.{waitLimit}
-use Rattle.lines.specs.Reading.{textAt, mayFollow, restOf}
-use Rattle.lines.proofs.Laws.Digits.{either, decimal-small, decimal-split, decimal-more, length-split, worth-digit, digit-worth}
+use Rattle.lines.specs.Reading.{textAt, mayFollow, restOf, waitOf}
+use Rattle.lines.proofs.Laws.Digits.{either, decimal-small, decimal-split, decimal-more, decimal-length, length-split, worth-digit, digit-worth}
 use Rattle.lines.proofs.Laws.Steps.{follow-digit}
 
 -- a wait that starts here, at this place of its line
 unfoldable pub begun : ℕ → List ℕ → Wait
-begun place rest = cond (ltb (worthOf (textAt rest 0)) 10) (restOf (place + 1) (worthOf (textAt rest 0)) (drop 1 rest)) Bad
+begun place rest =
+    cond (ltb 9 (worthOf (textAt rest 0))) (Bad BadLine place) (restOf (place + 1) (worthOf (textAt rest 0)) (drop 1 rest))
+
+-- a line's wait starts at its sixth byte
+pub wait-begun : (text : List ℕ) → waitOf text ≡ begun 5 (drop 5 text)
+unfolding waitOf begun textAt
+wait-begun text = simp (getD-drop, drop-drop)
 
 digit-above : (worth : ℕ) → 0x30 ≤ digit worth
 unfolding digit
 digit-above worth = either (ltb (worth % 16) 10) (λ e. simp e (omega arith)) (λ e. simp e (omega arith))
 
-may-follow : (value worth : ℕ) → 0 < value → worth < 10 → value * 10 + worth ≤ waitLimit → mayFollow value worth ≡ true
+may-follow : (value worth : ℕ) → 0 < value → value * 10 + worth ≤ waitLimit → mayFollow value worth ≡ true
 unfolding mayFollow
-may-follow value worth some small below =
-    simp (lt-ltb 0 value some, lt-ltb worth 10 small, le-leb (value * 10 + worth) waitLimit below)
+may-follow value worth some below = simp (lt-ltb 0 value some, le-leb (value * 10 + worth) waitLimit below)
 
 -- one digit more is read
 rest-digit : (place n : ℕ) (more : List ℕ) → 10 ≤ n → n ≤ waitLimit
@@ -36,9 +44,10 @@ unfolding restOf
 rest-digit place n more large below =
     let worth : worthOf (digit (n % 10)) ≡ n % 10 = worth-digit (n % 10) (omega arith) in
     let other : eqb (digit (n % 10)) newline ≡ false = ne-eqb (digit (n % 10)) newline (λ e. omega (arith, digit-above (n % 10))) in
-    let may = may-follow (n / 10) (n % 10) (omega arith) (omega arith) (omega arith) in
+    let small : ltb 9 (n % 10) ≡ false = le-ltb 9 (n % 10) (omega arith) in
+    let may = may-follow (n / 10) (n % 10) (omega arith) (omega arith) in
     let same : n / 10 * 10 + n % 10 ≡ n = omega arith in
-    simp (other, worth, may, same)
+    simp (other, worth, small, may, same)
 
 -- the digits of a number are read as the number
 spelled-reads : (k place n : ℕ) (more : List ℕ) → n < k → n ≤ waitLimit
@@ -49,7 +58,7 @@ spelled-reads (suc k) place n more enough below =
     either (ltb n 10)
     (λ e.
     let small = ltb-true n 10 e in
-    simp (decimal-small n small, worth-digit n (omega arith), lt-ltb n 10 small))
+    simp (decimal-small n small, worth-digit n (omega arith), le-ltb 9 n (omega arith)))
     (λ e.
     let large = ltb-false n 10 e in
     let long : place + length (decimal (n / 10)) + 1 ≡ place + length (decimal n) = omega (arith, length-split n large) in
@@ -60,6 +69,11 @@ spelled-reads (suc k) place n more enough below =
 
 pub decimal-reads : (place n : ℕ) (more : List ℕ) → n ≤ waitLimit → begun place (decimal n ++ more) ≡ restOf (place + length (decimal n)) n more
 decimal-reads place n more below = spelled-reads (suc n) place n more (omega arith) below
+
+-- a digit read after a value that is not 0 is the last digit of the larger one
+digit-more : (value byte : ℕ) → 0 < value → worthOf byte ≤ 9 → decimal (value * 10 + worthOf byte) ≡ decimal value ++ (byte ∷ [])
+digit-more value byte some small =
+    decimal-more value (worthOf byte) some (omega arith) ∙ ap (λ (b : ℕ). decimal value ++ (b ∷ [])) (digit-worth byte (omega arith))
 
 -- what a good wait was read from: these digits, a newline, and any text
 pub record ReadFrom (digits : List ℕ) (place wait end : ℕ) : Type 0 where
@@ -85,36 +99,151 @@ rest-good (byte ∷ rest) place value wait end below good =
       ends = sym last ∙ ap (λ (v : ℕ). place + length (decimal v) + 1) same;
       below = rw (sym same) below;
     })
-    (λ e. either (mayFollow value (worthOf byte))
+    (λ e. either (ltb 9 (worthOf byte))
+    (λ large. let bad = simp (e, large) at good in let no : _≡_ {A = ℕ} 0 1 = cc in absurd (omega arith))
+    (λ f. either (mayFollow value (worthOf byte))
     (λ may.
+    let small = ltb-false 9 (worthOf byte) f in
     let is = follow-digit value (worthOf byte) may in
-    let longer : decimal (value * 10 + worthOf byte) ≡ decimal value ++ (byte ∷ []) =
-    decimal-more value (worthOf byte) (is .0) (is .1) ∙ ap (λ (b : ℕ). decimal value ++ (b ∷ [])) (digit-worth byte (omega arith)) in
+    let longer = digit-more value byte (is .0) small in
     let long : place + length (decimal value) + 1 ≡ place + length (decimal (value * 10 + worthOf byte)) =
     omega (arith, ap length longer ∙ length-append (decimal value) (byte ∷ [])) in
-    let from = rest-good rest place (value * 10 + worthOf byte) wait end (is .2) (rw long at (simp (e, may) at good)) in
+    let from = rest-good rest place (value * 10 + worthOf byte) wait end (is .1) (rw long at (simp (e, f, may) at good)) in
     record {
       more = from .more;
       text = sym (append-assoc (decimal value) (byte ∷ []) rest) ∙ ap (λ (l : List ℕ). l ++ rest) (sym longer) ∙ from .text;
       ends = from .ends;
       below = from .below;
     })
-    (λ may. let bad = simp (e, may) at good in let no : _≡_ {A = ℕ} 0 1 = cc in absurd (omega arith)))
+    (λ may. let bad = simp (e, f, may) at good in let no : _≡_ {A = ℕ} 0 1 = cc in absurd (omega arith))))
 
-begun-none : (place : ℕ) → begun place [] ≡ Bad
+begun-none : (place : ℕ) → begun place [] ≡ Bad BadLine place
 unfolding begun textAt worthOf
 begun-none place = refl
+
+-- a first digit is the decimal of what it is worth
+digit-one : (byte : ℕ) → worthOf byte ≤ 9 → decimal (worthOf byte) ≡ byte ∷ []
+digit-one byte small = decimal-small (worthOf byte) (omega arith) ∙ ap (λ (b : ℕ). b ∷ []) (digit-worth byte (omega arith))
 
 -- a good wait was read from the digits that it starts with
 pub begun-good : (rest : List ℕ) (place wait end : ℕ) → begun place rest ≡ Good wait end → ReadFrom rest place wait end
 unfolding begun textAt
 begun-good [] place wait end good = let none = begun-none place in let no : _≡_ {A = ℕ} 0 1 = cc in absurd (omega arith)
 begun-good (byte ∷ rest) place wait end good =
-    either (ltb (worthOf byte) 10)
+    either (ltb 9 (worthOf byte))
+    (λ e. let bad = simp e at good in let no : _≡_ {A = ℕ} 0 1 = cc in absurd (omega arith))
     (λ e.
-    let small = ltb-true (worthOf byte) 10 e in
-    let one : decimal (worthOf byte) ≡ byte ∷ [] =
-    decimal-small (worthOf byte) small ∙ ap (λ (b : ℕ). b ∷ []) (digit-worth byte (omega arith)) in
+    let small = ltb-false 9 (worthOf byte) e in
+    let one = digit-one byte small in
     let long : place + 1 ≡ place + length (decimal (worthOf byte)) = omega (arith, ap length one) in
     rw one at (rest-good rest place (worthOf byte) wait end (omega arith) (rw long at (simp e at good))))
-    (λ e. let bad = simp e at good in let no : _≡_ {A = ℕ} 0 1 = cc in absurd (omega arith))
+
+-- where a wait's rest stops: so many of its bytes stand, they are the last digits of a wait, and whatever is after the byte at
+-- which it stops, it stops there
+pub record Stops (rest : List ℕ) (place value : ℕ) (answer : Answer) (at : ℕ) : Type 0 where
+  pub count : ℕ
+  pub wait : ℕ
+  pub which : answer ≡ BadLine
+  pub is-place : at ≡ place + count
+  pub inside : count ≤ length rest
+  pub digits : decimal value ++ take count rest ≡ decimal wait
+  pub below : wait ≤ waitLimit
+  pub again : count < length rest → (more : List ℕ) → restOf place value (take (suc count) rest ++ more) ≡ Bad answer at
+
+-- at once
+stops-here : (rest : List ℕ) (place value : ℕ) (answer : Answer) (at : ℕ) → value ≤ waitLimit → Bad BadLine place ≡ Bad answer at
+    → (0 < length rest → (more : List ℕ) → restOf place value (take 1 rest ++ more) ≡ Bad BadLine place) → Stops rest place value answer at
+stops-here rest place value answer at below is again =
+    let here : place ≡ at = cc in
+    record {
+      count = 0;
+      wait = value;
+      which = cc;
+      is-place = omega arith;
+      inside = omega arith;
+      digits = append-nil (decimal value);
+      below = below;
+      again = λ some more. again some more ∙ is;
+    }
+
+pub rest-stops-at : (rest : List ℕ) (place value : ℕ) (answer : Answer) (at : ℕ) → value ≤ waitLimit → restOf place value rest ≡ Bad answer at
+    → Stops rest place value answer at
+unfolding restOf
+rest-stops-at [] place value answer at below bad = stops-here [] place value answer at below bad (λ some. absurd (omega arith))
+rest-stops-at (byte ∷ rest) place value answer at below bad =
+    either (eqb byte newline)
+    (λ e. let good = simp e at bad in let no : _≡_ {A = ℕ} 0 1 = cc in absurd (omega arith))
+    (λ e. either (ltb 9 (worthOf byte))
+    (λ f. stops-here (byte ∷ rest) place value answer at below (simp (e, f) at bad) (λ _ more. simp (e, f)))
+    (λ f. either (mayFollow value (worthOf byte))
+    (λ may.
+    let small = ltb-false 9 (worthOf byte) f in
+    let is = follow-digit value (worthOf byte) may in
+    let s = rest-stops-at rest (place + 1) (value * 10 + worthOf byte) answer at (is .1) (simp (e, f, may) at bad) in
+    let longer = digit-more value byte (is .0) small in
+    record {
+      count = suc (s .count);
+      wait = s .wait;
+      which = s .which;
+      is-place = let p = s .is-place in omega arith;
+      inside = let i = s .inside in omega arith;
+      digits = sym (append-assoc (decimal value) (byte ∷ []) (take (s .count) rest))
+          ∙ ap (λ (l : List ℕ). l ++ take (s .count) rest) (sym longer) ∙ s .digits;
+      below = s .below;
+      again = λ some more. simp (e, f, may) (s .again (omega arith) more);
+    })
+    (λ may. stops-here (byte ∷ rest) place value answer at below (simp (e, f, may) at bad) (λ _ more. simp (e, f, may)))))
+
+-- where a wait stops: so many of its bytes stand, they are the first of a wait's field, and whatever is after the byte at which
+-- it stops, it stops there
+pub record Halts (rest : List ℕ) (place : ℕ) (answer : Answer) (at : ℕ) : Type 0 where
+  pub count : ℕ
+  pub wait : ℕ
+  pub which : answer ≡ BadLine
+  pub is-place : at ≡ place + count
+  pub inside : count ≤ length rest
+  pub first : take count rest ≡ take count (numberField wait newline)
+  pub below : wait ≤ waitLimit
+  pub few : count ≤ 10
+  pub again : count < length rest → (more : List ℕ) → begun place (take (suc count) rest ++ more) ≡ Bad answer at
+
+-- before its first digit
+halts-here : (rest : List ℕ) (place : ℕ) (answer : Answer) (at : ℕ) → Bad BadLine place ≡ Bad answer at
+    → (0 < length rest → (more : List ℕ) → begun place (take 1 rest ++ more) ≡ Bad BadLine place) → Halts rest place answer at
+halts-here rest place answer at is again =
+    let here : place ≡ at = cc in
+    record {
+      count = 0;
+      wait = 0;
+      which = cc;
+      is-place = omega arith;
+      inside = omega arith;
+      first = refl;
+      below = omega arith;
+      few = omega arith;
+      again = λ some more. again some more ∙ is;
+    }
+
+pub begun-halts : (rest : List ℕ) (place : ℕ) (answer : Answer) (at : ℕ) → begun place rest ≡ Bad answer at → Halts rest place answer at
+unfolding begun textAt numberField
+begun-halts [] place answer at bad = halts-here [] place answer at (sym (begun-none place) ∙ bad) (λ some. absurd (omega arith))
+begun-halts (byte ∷ rest) place answer at bad =
+    either (ltb 9 (worthOf byte))
+    (λ e. halts-here (byte ∷ rest) place answer at (simp e at bad) (λ _ more. simp e))
+    (λ e.
+    let small = ltb-false 9 (worthOf byte) e in
+    let s = rest-stops-at rest (place + 1) (worthOf byte) answer at (omega arith) (simp e at bad) in
+    let all : byte ∷ take (s .count) rest ≡ decimal (s .wait) = ap (λ (l : List ℕ). l ++ take (s .count) rest) (sym (digit-one byte small)) ∙ s .digits in
+    let long : suc (s .count) ≡ length (decimal (s .wait)) =
+    ap suc (sym (length-take-le (s .count) rest (s .inside))) ∙ ap length all in
+    record {
+      count = suc (s .count);
+      wait = s .wait;
+      which = s .which;
+      is-place = let p = s .is-place in omega arith;
+      inside = let i = s .inside in omega arith;
+      first = all ∙ sym (take-at (decimal (s .wait)) (newline ∷ []) (suc (s .count)) (sym long));
+      below = s .below;
+      few = let b = s .below in omega (arith, decimal-length 9 (s .wait) (omega arith));
+      again = λ some more. simp e (s .again (omega arith) more);
+    })

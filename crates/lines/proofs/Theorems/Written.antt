@@ -5,22 +5,24 @@ use mathlib.Core.List.{List, [], _∷_, _++_, append-assoc}
 use mathlib.Core.Path.{_≡_, sym, ap, _∙_}
 use Prim.Native.Nat.{ℕ, _+_, _/_, _%_, _<_, _≤_}
 use native.Mathlib.Omega.{arith}
-use borrow.Author.Tests.{lt-ltb}
+use borrow.Author.Tests.{le-ltb}
 use lib.Dec.{ltb}
 use lib.ListN.{length, drop}
 use Rattle.controller.specs.declared.answers.Answer.the-variants.{Done}
 use Rattle.controller.specs.Bus.{badTransfer}
 use Rattle.lines.specs.declared.writer.Written.{Written}
 use Rattle.lines.specs.Writing.{Writing, onto, writing, wanting, lineWriting}
+use Rattle.lines.specs.declared.reader.Field.the-variants.{Stands}
 use Rattle.lines.specs.declared.reader.Wait.the-variants.{Good}
 use Rattle.lines.specs.Digits.{newline, digit, worthOf, decimal, byteField, numberField}
-use Rattle.lines.specs.Line.{line, kindField, kindOf, waitLimit}
-use Rattle.lines.specs.Reading.{textAt, kindStands, byteStands, byteRead, restOf, waitOf, withWait, lineFrom, lineOf}
+use Rattle.lines.specs.Line.{line, kindField, waitLimit}
+use Rattle.lines.specs.Reading.{textAt, kindRead, byteRead, restOf, waitOf, withWait, withByte, withKind, lineOf}
 use Rattle.lines.specs.Theorems.{Sayable, lineRead, WrittenReadsBack, BufferReadsBack, LinesFit}
 use Rattle.lines.proofs.Laws.Digits.{either, worth-digit, field-length}
 use Rattle.lines.proofs.Laws.Kinds.{kind-below, kind-letter}
 use Rattle.lines.proofs.Laws.Lengths.{line-length, line-fits}
-use Rattle.lines.proofs.Laws.Waits.{begun, decimal-reads}
+use Rattle.lines.proofs.Laws.Steps.{digit-stands}
+use Rattle.lines.proofs.Laws.Waits.{begun, decimal-reads, wait-begun}
 
 -- a wait is read to its newline
 wait-reads : (place wait : ℕ) (more : List ℕ) → wait ≤ waitLimit
@@ -35,9 +37,9 @@ module _ (kind byte wait : ℕ) (more : List ℕ) (can : Sayable kind byte wait)
   below : kind < 4
   below = kind-below kind byte (can .transfer)
 
-  kind-written : kindStands (line kind byte wait ++ more) ≡ true
-  unfolding kindStands line kindField byteField textAt
-  kind-written = simp (kind-letter kind below, lt-ltb kind 4 below)
+  kind-written : kindRead (line kind byte wait ++ more) ≡ Stands kind
+  unfolding kindRead line kindField byteField textAt
+  kind-written = let few = below in simp (kind-letter kind below, le-ltb 3 kind (omega arith))
 
   high : worthOf (digit (byte / 16)) ≡ byte / 16
   high = worth-digit (byte / 16) (let is = can .is-byte in omega arith)
@@ -45,27 +47,24 @@ module _ (kind byte wait : ℕ) (more : List ℕ) (can : Sayable kind byte wait)
   low : worthOf (digit (byte % 16)) ≡ byte % 16
   low = worth-digit (byte % 16) (omega arith)
 
-  byte-written : byteStands (line kind byte wait ++ more) ≡ true
-  unfolding byteStands line kindField byteField textAt
+  byte-written : byteRead kind (line kind byte wait ++ more) ≡ Stands byte
+  unfolding byteRead line kindField byteField textAt
   byte-written =
       let is = can .is-byte in
-      simp (high, low, lt-ltb (byte / 16) 16 (omega arith), lt-ltb (byte % 16) 16 (omega arith))
-
-  kind-read : kindOf (textAt (line kind byte wait ++ more) 0) ≡ kind
-  unfolding line kindField textAt
-  kind-read = kind-letter kind below
-
-  byte-read : byteRead (line kind byte wait ++ more) ≡ byte
-  unfolding line kindField byteField textAt
-  byte-read = simp (high, low) (omega arith)
+      let first = digit-stands kind byte (byte / 16) (can .transfer) (omega arith) (omega arith) in
+      let second = digit-stands kind byte (byte % 16) (can .transfer) (omega arith) (omega arith) in
+      simp (high, low, first, second) (ap Stands (omega arith))
 
   wait-written : waitOf (line kind byte wait ++ more) ≡ Good wait (length (line kind byte wait))
-  unfolding waitOf line kindField byteField textAt begun
-  wait-written = wait-reads 5 wait more (can .is-wait) ∙ ap (Good wait) (omega (arith, line-length kind byte wait))
+  unfolding line kindField byteField
+  wait-written =
+      wait-begun (line kind byte wait ++ more)
+      ∙ wait-reads 5 wait more (can .is-wait)
+      ∙ ap (Good wait) (omega (arith, line-length kind byte wait))
 
   reads-back : lineOf (line kind byte wait ++ more) ≡ lineRead kind byte wait
-  unfolding lineOf lineFrom withWait
-  reads-back = simp (kind-written, byte-written, kind-read, byte-read, can .transfer, wait-written)
+  unfolding lineOf withKind withByte withWait
+  reads-back = simp (kind-written, byte-written, wait-written)
 
 pub written-reads-back : WrittenReadsBack
 written-reads-back kind byte wait more can = reads-back kind byte wait more can

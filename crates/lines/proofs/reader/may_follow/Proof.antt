@@ -14,15 +14,11 @@ add-result c = search needs
 
 returns : tie.Need-returns
 unfolding mayFollow
-returns c = simp (lt-ltb _ _ (c .if2 .taken), lt-ltb _ _ (c .before .if1 .taken))
+returns c = simp (lt-ltb _ _ (c .if1 .taken))
 
 returns-2 : tie.Need-returns-2
 unfolding mayFollow
-returns-2 c = simp (le-ltb _ _ (c .if2 .left), lt-ltb _ _ (c .before .if1 .taken))
-
-returns-3 : tie.Need-returns-3
-unfolding mayFollow
-returns-3 c = simp (le-ltb _ _ (c .if1 .left))
+returns-2 c = simp (le-ltb _ _ (c .if1 .left))
 
 pub may-follow-spec : {M : Type 1} → statement M
-may-follow-spec = tie.close (tie.spec mul-result add-result returns returns-2 returns-3)
+may-follow-spec = tie.close (tie.spec mul-result add-result returns returns-2)

@@ -5,7 +5,7 @@ use Prim.Native.Nat.{_≤_, _-_}
 use mathlib.Core.Path.{_≡_, sym, _∙_}
 use denote.Ref.{now}
 use borrow.Author.Tests.{not-true, not-false}
-use Rattle.lines.proofs.Laws.Steps.{follow-digit, rest-none, rest-ends, rest-more, rest-stops}
+use Rattle.lines.proofs.Laws.Steps.{follow-digit, rest-none, rest-ends, rest-other, rest-more, rest-stops}
 use borrow.Author.Needs.{needs}
 use lib.ListN.{length, drop}
 use Rattle.lines.specs.Line.{waitLimit}
@@ -40,17 +40,28 @@ returns c =
 worth-of-requires : tie.Need-worth-of-requires Inv-loop μ-loop
 worth-of-requires c κs = search needs
 
+returns-2 : tie.Need-returns-2 Inv-loop μ-loop
+returns-2 c =
+    let other = c .before .before in
+    let loop = other .before .before .before in
+    let large = rw (c .before .worth-of .ensures) at (c .if2 .taken) in
+    sym
+    (rest-other (now (loop .before .before .args .text)) (loop .loop .place) (loop .loop .value) (other .before .before .loop-test .taken) (other .if1 .left) large)
+    ∙ loop .loop .inv .1
+
 may-follow-requires : tie.Need-may-follow-requires Inv-loop μ-loop
 may-follow-requires c κs = search needs
 
-returns-2 : tie.Need-returns-2 Inv-loop μ-loop
-returns-2 c =
-    let other = c .before .before .before in
+returns-3 : tie.Need-returns-3 Inv-loop μ-loop
+returns-3 c =
+    let digit = c .before .before in
+    let other = digit .before .before in
     let loop = other .before .before .before in
-    let stops = sym (c .before .may-follow .ensures) ∙ not-true _ (c .if2 .taken) in
+    let worth = digit .before .worth-of .ensures in
+    let stops = sym (c .before .may-follow .ensures) ∙ not-true _ (c .if3 .taken) in
     sym
     (rest-stops (now (loop .before .before .args .text)) (loop .loop .place) (loop .loop .value) (other .before .before .loop-test .taken) (other .if1 .left)
-    (rw (c .before .before .worth-of .ensures) at stops))
+    (rw worth at (digit .if2 .left)) (rw worth at stops))
     ∙ loop .loop .inv .1
 
 mul-value : tie.Need-mul-value Inv-loop μ-loop
@@ -70,17 +81,19 @@ loop-less c = search needs
 
 loop-again : tie.Need-loop-again Inv-loop μ-loop
 loop-again c =
-    let other = c .before .before .before in
+    let digit = c .before .before in
+    let other = digit .before .before in
     let loop = other .before .before .before in
     let text = now (loop .before .before .args .text) in
-    let worth = c .before .before .worth-of .ensures in
-    let may = rw worth at (sym (c .before .may-follow .ensures) ∙ not-false _ (c .if2 .left)) in (
-      rw worth (follow-digit _ _ may .2),
-      rw worth (sym (rest-more text (loop .loop .place) (loop .loop .value) (other .before .before .loop-test .taken) (other .if1 .left) may) ∙ loop .loop .inv .1),
+    let worth = digit .before .worth-of .ensures in
+    let may = rw worth at (sym (c .before .may-follow .ensures) ∙ not-false _ (c .if3 .left)) in
+    let small = rw worth at (digit .if2 .left) in (
+      rw worth (follow-digit _ _ may .1),
+      rw worth (sym (rest-more text (loop .loop .place) (loop .loop .value) (other .before .before .loop-test .taken) (other .if1 .left) small may) ∙ loop .loop .inv .1),
     )
 
-returns-3 : tie.Need-returns-3 Inv-loop μ-loop
-returns-3 c =
+returns-4 : tie.Need-returns-4 Inv-loop μ-loop
+returns-4 c =
     let loop = c .before in
     sym (rest-none (now (loop .before .before .args .text)) (loop .loop .place) (loop .loop .value) (c .loop-test .left)) ∙ loop .loop .inv .1
 
@@ -96,12 +109,13 @@ read-rest-spec =
     add-t12
     returns
     worth-of-requires
-    may-follow-requires
     returns-2
+    may-follow-requires
+    returns-3
     mul-value
     cast-value
     add-value
     add-place
     loop-less
     loop-again
-    returns-3)
+    returns-4)

@@ -1,4 +1,4 @@
--- `lines::reader::with_wait` meets its contract: a bad wait makes a bad line, a good one the line with it.
+-- `lines::reader::with_wait` meets its contract: a good wait makes the line with it, a fault ends the line.
 -- Assumes nothing.
 use Rattle.lines.specs.Reading.{withWait}
 use borrow.Author.Needs.{needs}
@@ -8,11 +8,11 @@ use Rattle.lines.proofs.reader.with_wait.Tie as tie
 enum-known-wait : tie.Need-enum-known-wait
 enum-known-wait c = search needs
 
-enum-told : tie.Need-enum-told
-enum-told c = search needs
+enum-known-wait-2 : tie.Need-enum-known-wait-2
+enum-known-wait-2 c = search needs
 
-bad-line-requires : tie.Need-bad-line-requires
-bad-line-requires c κs = search needs
+refused-line-requires : tie.Need-refused-line-requires
+refused-line-requires c κs = search needs
 
 returns : tie.Need-returns
 unfolding withWait
@@ -20,7 +20,8 @@ returns c = simp (c .before .wait .given .1)
 
 returns-2 : tie.Need-returns-2
 unfolding withWait
-returns-2 c = simp (c .bad-line .ensures, c .before .enum-told .given .1)
+returns-2 c = simp (c .refused-line .ensures, c .before .before .wait2 .given .1)
 
 pub with-wait-spec : {M : Type 1} → statement M
-with-wait-spec = tie.close (tie.spec enum-known-wait enum-told bad-line-requires returns returns-2)
+with-wait-spec =
+    tie.close (tie.spec enum-known-wait enum-known-wait-2 refused-line-requires returns returns-2)
