@@ -31,10 +31,13 @@
 #define YAROPESK_COUNTER_OFF 9     /* the counter is on no cell; never given, since such a record is answered 1 before */
 #define YAROPESK_BAD_SIZE 10       /* columns or lines out of range */
 #define YAROPESK_OUTPUT_SHORT 11   /* the output is too short */
-#define YAROPESK_BAD_LINE 12       /* no session line */
 #define YAROPESK_NOT_WISH 13       /* the wish or a mark is none */
 #define YAROPESK_OUTSIDE_SUBSET 14 /* a capture's text outside the subset */
 #define YAROPESK_SIGNAL_MISSING 15 /* a capture without a needed signal */
+#define YAROPESK_BAD_KIND 16       /* a session line's kind or its tab */
+#define YAROPESK_BAD_BYTE 17       /* a session line's byte or its tab */
+#define YAROPESK_BAD_WAIT 18       /* a session line's wait */
+#define YAROPESK_NO_NEWLINE 19     /* no newline where one must stand in a session line */
 #define YAROPESK_LEVEL_UNKNOWN 28  /* a capture with x or z on a needed line where E falls */
 
 /* Sizes in bytes. */
@@ -157,7 +160,8 @@ uint32_t yaropesk_plan(const uint8_t *wish, size_t wish_length, const uint8_t *m
 uint32_t yaropesk_write_line(uint8_t kind, uint8_t byte, uint32_t wait, uint8_t *out, size_t out_length);
 
 /* The session line at the start of a text, as a transfer of six bytes into an output of at least six.
- * Answers: 12, 11, or 0. The value is the line's length, so that the next line begins there. */
+ * Answers: 16, 17, 18 or 19, by the first byte that cannot stand, 11, or 0. The value is the line's length, so that the
+ * next line begins there. */
 uint32_t yaropesk_read_line(const uint8_t *text, size_t text_length, uint8_t *out, size_t out_length);
 
 /* The session of a capture from a logic pod, as session lines, into an output at least as long as their text. An output

@@ -47,7 +47,7 @@ same 'not drawn: an empty word' "$work/got" "$work/empty"
 
 # A bad line with a bitmap: the row and the words stand on standard error, and the bitmap alone on standard output.
 timeout 20 "$program" 8 1 --pbm < tests/glass/bad_line.session > "$work/got" 2> "$work/errors"
-printf 'no\tanswer\tbyte\tbusy\n4\t12\t00\t40\n' | cat - tests/glass/bad_line.errors > "$work/want"
+printf 'no\tanswer\tbyte\tbusy\n4\t17\t00\t40\n' | cat - tests/glass/bad_line.errors > "$work/want"
 same 'a bad line beside a bitmap' "$work/errors" "$work/want"
 head -c 13 "$work/got" > "$work/head"
 printf 'P4\n0392 0080\n' > "$work/want"

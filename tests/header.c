@@ -114,7 +114,12 @@ static void try_lines(void) {
         check("letter", i, out[0] == (uint8_t)letters[i]);
     }
     answered("kind", yaropesk_write_line(YAROPESK_DATA_READ + 1, 0, 0, out, YAROPESK_LINE_SIZE), YAROPESK_BAD_TRANSFER);
-    answered("no line", yaropesk_read_line(text + 1, sizeof text - 2, out, YAROPESK_TRANSFER_SIZE), YAROPESK_BAD_LINE);
+    for (size_t length = 0; length < sizeof text - 1; length++) {
+        static const unsigned field[] = {YAROPESK_BAD_KIND, YAROPESK_BAD_KIND, YAROPESK_BAD_BYTE, YAROPESK_BAD_BYTE,
+                                         YAROPESK_BAD_BYTE, YAROPESK_BAD_WAIT};
+        answered("cut line", yaropesk_read_line(text, length, out, YAROPESK_TRANSFER_SIZE),
+                 length < 6 ? field[length] : YAROPESK_NO_NEWLINE);
+    }
     answered("short transfer", yaropesk_read_line(text, sizeof text - 1, out, YAROPESK_TRANSFER_SIZE - 1),
              YAROPESK_OUTPUT_SHORT);
     uint32_t read = yaropesk_read_line(text, sizeof text - 1, out, YAROPESK_TRANSFER_SIZE);

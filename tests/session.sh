@@ -12,7 +12,7 @@ is_built "$program" session
 
 # What is told of the bad line of a report, if it has one: its number, and what a line looks like.
 told_of() {
-    awk -F '\t' '$2 == 12 {
+    awk -F '\t' '$2 >= 16 && $2 <= 19 {
         print "session: line " $1 " is not a session line. A line is I, D, S or R, a tab, two hex digits in capitals" \
             " (00 for S and R), a tab, the wait in microseconds without leading zeros, up to 4294967295, and a newline:" \
             " I<tab>38<tab>15000"
@@ -38,7 +38,7 @@ done
 
 # A bad line in words, written out once.
 printf 'I\t38\t15000\nS\t00\t0\nD\t4g\t0\nS\t00\t0\n' > "$work/bad"
-printf 'no\tanswer\tbyte\tbusy\n1\t0\t00\t40\n2\t0\t80\t40\n3\t12\t00\t40\n' > "$work/bad_report"
+printf 'no\tanswer\tbyte\tbusy\n1\t0\t00\t40\n2\t0\t80\t40\n3\t17\t00\t40\n' > "$work/bad_report"
 plays "$work/bad" "$work/bad_report"
 grep -q '^session: line 3 is not a session line\. A line is ' "$work/errors"
 count 'a bad line is told with its number' $?

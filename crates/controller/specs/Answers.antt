@@ -9,8 +9,8 @@ use lib.Dec.{eqb}
 use Rattle.controller.specs.declared.answers.Answer.{Answer}
 use Rattle.controller.specs.declared.answers.Answer.the-variants.{Done, Unsound, NotWhole, BadTransfer, Busy, FirstHalf}
 use Rattle.controller.specs.declared.answers.Answer.the-variants.{NoCell, StaleRead, CrossedHalves, CounterOff, BadSize}
-use Rattle.controller.specs.declared.answers.Answer.the-variants.{OutputShort, BadLine, NotWish, OutsideSubset}
-use Rattle.controller.specs.declared.answers.Answer.the-variants.{SignalMissing, LevelUnknown}
+use Rattle.controller.specs.declared.answers.Answer.the-variants.{OutputShort, NotWish, OutsideSubset, SignalMissing}
+use Rattle.controller.specs.declared.answers.Answer.the-variants.{BadKind, BadByte, BadWait, NoNewline, LevelUnknown}
 
 -- The number of each answer.
 abbrev pub numberOf : Answer → ℕ
@@ -26,10 +26,13 @@ numberOf CrossedHalves = 8
 numberOf CounterOff = 9
 numberOf BadSize = 10
 numberOf OutputShort = 11
-numberOf BadLine = 12
 numberOf NotWish = 13
 numberOf OutsideSubset = 14
 numberOf SignalMissing = 15
+numberOf BadKind = 16
+numberOf BadByte = 17
+numberOf BadWait = 18
+numberOf NoNewline = 19
 numberOf LevelUnknown = 28
 
 -- The answer is 0.

@@ -15,10 +15,13 @@ pub enum Answer {
     CounterOff,
     BadSize,
     OutputShort,
-    BadLine,
     NotWish,
     OutsideSubset,
     SignalMissing,
+    BadKind,
+    BadByte,
+    BadWait,
+    NoNewline,
     LevelUnknown,
 }
 
@@ -39,10 +42,13 @@ pub fn number(answer: Answer) -> u8
         Answer::CounterOff => 9,
         Answer::BadSize => 10,
         Answer::OutputShort => 11,
-        Answer::BadLine => 12,
         Answer::NotWish => 13,
         Answer::OutsideSubset => 14,
         Answer::SignalMissing => 15,
+        Answer::BadKind => 16,
+        Answer::BadByte => 17,
+        Answer::BadWait => 18,
+        Answer::NoNewline => 19,
         Answer::LevelUnknown => 28,
     }
 }

@@ -25,7 +25,7 @@ writeCall kind byte wait out = fillingOf (lineWriting kind byte wait out) out
 abbrev pub sixOf : Line → List ℕ
 sixOf line = sixBytes (record { kind = line .kind; byte = line .byte; wait = line .wait })
 
--- A line that was read, the refusals in their order: 12, then 11. Six bytes are wanted.
+-- A line that was read, the refusals in their order: the reader's own, then 11. Six bytes are wanted.
 unfoldable pub stored : Line → List ℕ → Filling
 stored line out =
     cond (not (isDone (line .answer))) (declined (line .answer) out)

@@ -15,7 +15,8 @@ use Rattle.controller.specs.Rows.{Breaks, resetRows, transferRows}
 use Rattle.controller.specs.Theorems.{left}
 use Rattle.captures.specs.Theorems.{importRows}
 use Rattle.dots.specs.Theorems.{pictureRows}
-use Rattle.lines.specs.Theorems.{Starts, writerRows}
+use Rattle.lines.specs.Faults.{readerRows}
+use Rattle.lines.specs.Theorems.{writerRows}
 use Rattle.planner.specs.declared.wish.Wish.{Wish}
 use Rattle.planner.specs.Theorems.{NotWished, planRows}
 use Rattle.interface.specs.declared.record_bytes.ReadRecord.{ReadRecord}
@@ -101,10 +102,9 @@ resetCallRows bytes mem = record { number = 1; applies = length bytes ≡ 24 →
 abbrev pub NoneWished : List ℕ → List ℕ → Type 0
 NoneWished bytes marks = (wish : Wish) → bytes ≡ wishBytes wish → NotWished wish marks
 
--- The rows of `yaropesk_read_line`: 12 where no line stands at the start of the text, then 11, six bytes being wanted.
+-- The rows of `yaropesk_read_line`: those of the reader, 16 to 19, then 11, six bytes being wanted.
 unfoldable pub readRows : List ℕ → List ℕ → List Row
-readRows text out =
-    record { number = 12; applies = Starts text → ⊥ } ∷ record { number = 11; applies = length out < 6 } ∷ []
+readRows text out = readerRows text (record { number = 11; applies = length out < 6 } ∷ [])
 
 -- What each call answers.
 pub record CallAnswers : Type 0 where

@@ -3,6 +3,8 @@ pub mod Digits
 pub mod Steps
 pub mod Lengths
 pub mod Waits
+pub mod Parts
+pub mod Places
 pub mod Fields
 pub mod Kinds
 pub mod Nothing

@@ -8,3 +8,4 @@ pub mod ReportText
 pub mod Words
 pub mod Promises
 pub mod Theorems
+pub mod Faults

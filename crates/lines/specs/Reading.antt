@@ -7,7 +7,7 @@ use Prim.Native.Nat.{ℕ, _+_, _*_}
 use lib.Dec.{ltb, leb, eqb}
 use lib.ListN.{getD, drop}
 use Rattle.controller.specs.declared.answers.Answer.{Answer}
-use Rattle.controller.specs.declared.answers.Answer.the-variants.{Done, BadLine}
+use Rattle.controller.specs.declared.answers.Answer.the-variants.{Done, BadKind, BadByte, BadWait, NoNewline}
 use Rattle.lines.specs.declared.reader.Field.{Field}
 use Rattle.lines.specs.declared.reader.Field.the-variants.{Stands, Fault}
 use Rattle.lines.specs.declared.reader.Line.{Line}
@@ -21,38 +21,39 @@ use Rattle.lines.specs.Line.{kindOf, waitLimit}
 unfoldable pub textAt : List ℕ → ℕ → ℕ
 textAt text place = getD text place 0
 
--- The kind: its letter, and its tab.
+-- The kind: its letter, and its tab. Its faults are 16.
 unfoldable pub kindRead : List ℕ → Field
 kindRead text =
-    cond (ltb 3 (kindOf (textAt text 0))) (Fault BadLine 0)
-    (cond (not (eqb (textAt text 1) tab)) (Fault BadLine 1) (Stands (kindOf (textAt text 0))))
+    cond (ltb 3 (kindOf (textAt text 0))) (Fault BadKind 0)
+    (cond (not (eqb (textAt text 1) tab)) (Fault BadKind 1) (Stands (kindOf (textAt text 0))))
 
 -- A digit of this worth may stand in the byte of this kind: any hex digit, and for `S` and `R` only 0.
 unfoldable pub digitStands : ℕ → ℕ → Bool
 digitStands kind worth = ltb worth 16 && (ltb kind 2 || eqb worth 0)
 
--- The byte: its two digits, and its tab.
+-- The byte: its two digits, and its tab. Its faults are 17.
 unfoldable pub byteRead : ℕ → List ℕ → Field
 byteRead kind text =
-    cond (not (digitStands kind (worthOf (textAt text 2)))) (Fault BadLine 2)
-    (cond (not (digitStands kind (worthOf (textAt text 3)))) (Fault BadLine 3)
-    (cond (not (eqb (textAt text 4) tab)) (Fault BadLine 4) (Stands (worthOf (textAt text 2) * 16 + worthOf (textAt text 3)))))
+    cond (not (digitStands kind (worthOf (textAt text 2)))) (Fault BadByte 2)
+    (cond (not (digitStands kind (worthOf (textAt text 3)))) (Fault BadByte 3)
+    (cond (not (eqb (textAt text 4) tab)) (Fault BadByte 4) (Stands (worthOf (textAt text 2) * 16 + worthOf (textAt text 3)))))
 
 -- A digit may follow digits of this value: not after a leading zero, and not past the limit.
 unfoldable pub mayFollow : ℕ → ℕ → Bool
 mayFollow value worth = ltb 0 value && leb (value * 10 + worth) waitLimit
 
--- The rest of a wait whose digits so far have this value; `place` is where the rest stands in the line. A newline ends the line.
+-- The rest of a wait whose digits so far have this value; `place` is where the rest stands in the line. A newline ends the line;
+-- any other byte that is no digit is 19, and so is the end of the text; a digit that may not follow is 18.
 unfoldable pub restOf : ℕ → ℕ → List ℕ → Wait
-restOf place value [] = Bad BadLine place
+restOf place value [] = Bad NoNewline place
 restOf place value (byte ∷ rest) =
     cond (eqb byte newline) (Good value (place + 1))
-    (cond (ltb 9 (worthOf byte)) (Bad BadLine place)
-    (cond (mayFollow value (worthOf byte)) (restOf (place + 1) (value * 10 + worthOf byte) rest) (Bad BadLine place)))
+    (cond (ltb 9 (worthOf byte)) (Bad NoNewline place)
+    (cond (mayFollow value (worthOf byte)) (restOf (place + 1) (value * 10 + worthOf byte) rest) (Bad BadWait place)))
 
--- The wait, with the line's length: a first digit, and its rest.
+-- The wait, with the line's length: a first digit, without which it is 18, and its rest.
 unfoldable pub waitOf : List ℕ → Wait
-waitOf text = cond (ltb 9 (worthOf (textAt text 5))) (Bad BadLine 5) (restOf 6 (worthOf (textAt text 5)) (drop 6 text))
+waitOf text = cond (ltb 9 (worthOf (textAt text 5))) (Bad BadWait 5) (restOf 6 (worthOf (textAt text 5)) (drop 6 text))
 
 -- A line that is refused: the answer, the place of the fault, and zeros for the rest.
 abbrev pub refusedLine : Answer → ℕ → Line

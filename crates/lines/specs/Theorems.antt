@@ -3,11 +3,10 @@
 -- Assumes nothing.
 use mathlib.Core.Bool.{false}
 use mathlib.Core.List.{List, [], _∷_, _++_}
-use mathlib.Core.Logic.{_⊎_}
 use mathlib.Core.Path.{_≡_}
-use Prim.Native.Nat.{ℕ, _+_, _<_, _≤_}
+use Prim.Native.Nat.{ℕ, _<_, _≤_}
 use lib.ListN.{length, take}
-use Rattle.controller.specs.declared.answers.Answer.the-variants.{Done, BadLine}
+use Rattle.controller.specs.declared.answers.Answer.the-variants.{Done}
 use Rattle.controller.specs.declared.sent.Sent.{Sent}
 use Rattle.controller.specs.Bus.{badTransfer}
 use Rattle.controller.specs.Answers.{numberOf, Row, Tells}
@@ -15,7 +14,7 @@ use Rattle.controller.specs.Rows.{NoTransfer}
 use Rattle.lines.specs.declared.reader.Line.{Line}
 use Rattle.lines.specs.declared.writer.Written.{Written}
 use Rattle.lines.specs.Line.{line, linesOf, waitLimit}
-use Rattle.lines.specs.Reading.{lineOf, refusedLine}
+use Rattle.lines.specs.Reading.{lineOf}
 use Rattle.lines.specs.Session.{sessionOf}
 use Rattle.lines.specs.Writing.{Writing, Writes, writing, wanting, lineWriting}
 
@@ -30,14 +29,18 @@ unfoldable pub AllSayable : List Sent → Type 0
 AllSayable [] = Unit {0}
 AllSayable (t ∷ ts) = Sayable (t .kind) (t .byte) (t .wait) × AllSayable ts
 
--- A text starts with the line of a transfer, and any text is after it.
-pub record Starts (text : List ℕ) : Type 0 where
+-- A text starts with this part of the line of a transfer, and any text is after it.
+pub record Begins (part : ℕ → ℕ → ℕ → List ℕ) (text : List ℕ) : Type 0 where
   pub kind : ℕ
   pub byte : ℕ
   pub wait : ℕ
   pub more : List ℕ
   pub sayable : Sayable kind byte wait
-  pub stands : text ≡ line kind byte wait ++ more
+  pub stands : text ≡ part kind byte wait ++ more
+
+-- A text starts with the whole line.
+abbrev pub Starts : List ℕ → Type 0
+Starts text = Begins line text
 
 -- The line of a transfer as it is read.
 abbrev pub lineRead : ℕ → ℕ → ℕ → Line
@@ -67,34 +70,6 @@ OneReading =
     (kind byte wait kind′ byte′ wait′ : ℕ) (more more′ : List ℕ) → Sayable kind byte wait → Sayable kind′ byte′ wait′
     → line kind byte wait ++ more ≡ line kind′ byte′ wait′ ++ more′
     → (kind ≡ kind′) × (byte ≡ byte′) × (wait ≡ wait′) × (more ≡ more′)
-
--- The reader: 12, and zeros for all but the offset, exactly where no line stands at the start of the text.
-abbrev pub ReaderAnswers : Type 0
-ReaderAnswers =
-    (text : List ℕ)
-    → (Starts text × (lineOf text .answer ≡ Done))
-    ⊎ ((Starts text → ⊥) × (lineOf text ≡ refusedLine BadLine (lineOf text .offset)))
-
--- A text can be completed to one that starts with a line.
-pub record Completes (text : List ℕ) : Type 0 where
-  pub more : List ℕ
-  pub starts : Starts (text ++ more)
-
--- The offset of the first byte that cannot stand: the bytes before it can be completed to a line; with it, where the text goes
--- on, they cannot; and where the text ends early it can itself be completed.
-pub record FirstFault (text : List ℕ) (offset : ℕ) : Type 0 where
-  pub inside : offset ≤ length text
-  pub before : Completes (take offset text)
-  pub there : offset < length text → Completes (take (offset + 1) text) → ⊥
-  pub early : offset ≡ length text → Completes text
-
--- So it is with the offset of every text that is refused.
-abbrev pub FirstThatCannotStand : Type 0
-FirstThatCannotStand = (text : List ℕ) → (lineOf text .answer ≡ Done → ⊥) → FirstFault text (lineOf text .offset)
-
--- And no other number is such an offset of the text.
-abbrev pub OneOffset : Type 0
-OneOffset = (text : List ℕ) (a b : ℕ) → FirstFault text a → FirstFault text b → a ≡ b
 
 -- What is read is a transfer that a line can say, and its line has 7 to 16 bytes, all of them in the text.
 abbrev pub ReadIsSayable : Type 0

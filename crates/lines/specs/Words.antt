@@ -1,12 +1,13 @@
--- The answers in words (document 01, "What each number says").
+-- The answers in words (document 01, "What each number says"; document 02).
 -- Assumes nothing.
 use mathlib.Core.List.{List}
 use Prim.Native.Nat.{ℕ}
 use Rattle.controller.specs.declared.answers.Answer.{Answer}
 use Rattle.controller.specs.declared.answers.Answer.the-variants.{Done, Unsound, NotWhole, BadTransfer, Busy, FirstHalf}
 use Rattle.controller.specs.declared.answers.Answer.the-variants.{NoCell, StaleRead, CrossedHalves, CounterOff, BadSize}
-use Rattle.controller.specs.declared.answers.Answer.the-variants.{OutputShort, BadLine, NotWish}
+use Rattle.controller.specs.declared.answers.Answer.the-variants.{OutputShort, NotWish}
 use Rattle.controller.specs.declared.answers.Answer.the-variants.{OutsideSubset, SignalMissing, LevelUnknown}
+use Rattle.controller.specs.declared.answers.Answer.the-variants.{BadKind, BadByte, BadWait, NoNewline}
 use Rattle.lines.specs.Text.{bytesOf}
 
 -- What the table says of each answer.
@@ -23,8 +24,11 @@ answerWords CrossedHalves = bytesOf "crossed halves, done"
 answerWords CounterOff = bytesOf "counter on no cell"
 answerWords BadSize = bytesOf "columns or lines out of range"
 answerWords OutputShort = bytesOf "output too short"
-answerWords BadLine = bytesOf "bad line"
 answerWords NotWish = bytesOf "not a wish"
 answerWords OutsideSubset = bytesOf "text outside the subset"
 answerWords SignalMissing = bytesOf "needed signal missing"
+answerWords BadKind = bytesOf "kind or its tab"
+answerWords BadByte = bytesOf "byte or its tab"
+answerWords BadWait = bytesOf "wait"
+answerWords NoNewline = bytesOf "no newline where one must stand"
 answerWords LevelUnknown = bytesOf "x or z on a needed line at a fall"

@@ -50,10 +50,10 @@ fn read_kind(text: &[u8]) -> Field
 {
     let kind = kind_of(text_at(text, 0));
     if 3 < kind {
-        return Field::Fault(Answer::BadLine, 0);
+        return Field::Fault(Answer::BadKind, 0);
     }
     if text_at(text, 1) != b'\t' {
-        return Field::Fault(Answer::BadLine, 1);
+        return Field::Fault(Answer::BadKind, 1);
     }
     Field::Stands(kind)
 }
@@ -71,14 +71,14 @@ fn read_byte(kind: u8, text: &[u8]) -> Field
 {
     let high = worth_of(text_at(text, 2));
     if !digit_stands(kind, high) {
-        return Field::Fault(Answer::BadLine, 2);
+        return Field::Fault(Answer::BadByte, 2);
     }
     let low = worth_of(text_at(text, 3));
     if !digit_stands(kind, low) {
-        return Field::Fault(Answer::BadLine, 3);
+        return Field::Fault(Answer::BadByte, 3);
     }
     if text_at(text, 4) != b'\t' {
-        return Field::Fault(Answer::BadLine, 4);
+        return Field::Fault(Answer::BadByte, 4);
     }
     Field::Stands(high * 16 + low)
 }
@@ -105,15 +105,15 @@ fn read_rest(text: &[u8], first: u8) -> Wait
         }
         let worth = worth_of(byte);
         if 9 < worth {
-            return Wait::Bad(Answer::BadLine, place);
+            return Wait::Bad(Answer::NoNewline, place);
         }
         if !may_follow(value, worth) {
-            return Wait::Bad(Answer::BadLine, place);
+            return Wait::Bad(Answer::BadWait, place);
         }
         value = value * 10 + worth as u64;
         place += 1;
     }
-    Wait::Bad(Answer::BadLine, place)
+    Wait::Bad(Answer::NoNewline, place)
 }
 
 // The wait: a first digit, and its rest.
@@ -122,7 +122,7 @@ fn read_wait(text: &[u8]) -> Wait
 {
     let first = worth_of(text_at(text, 5));
     if 9 < first {
-        return Wait::Bad(Answer::BadLine, 5);
+        return Wait::Bad(Answer::BadWait, 5);
     }
     read_rest(text, first)
 }

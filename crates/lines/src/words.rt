@@ -20,10 +20,13 @@ pub fn put_answer(out: &mut [u8], at: usize, answer: Answer) -> usize
         Answer::CounterOff => put_text(out, at, b"counter on no cell"),
         Answer::BadSize => put_text(out, at, b"columns or lines out of range"),
         Answer::OutputShort => put_text(out, at, b"output too short"),
-        Answer::BadLine => put_text(out, at, b"bad line"),
         Answer::NotWish => put_text(out, at, b"not a wish"),
         Answer::OutsideSubset => put_text(out, at, b"text outside the subset"),
         Answer::SignalMissing => put_text(out, at, b"needed signal missing"),
+        Answer::BadKind => put_text(out, at, b"kind or its tab"),
+        Answer::BadByte => put_text(out, at, b"byte or its tab"),
+        Answer::BadWait => put_text(out, at, b"wait"),
+        Answer::NoNewline => put_text(out, at, b"no newline where one must stand"),
         Answer::LevelUnknown => put_text(out, at, b"x or z on a needed line at a fall"),
     }
 }

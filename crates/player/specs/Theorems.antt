@@ -7,7 +7,7 @@ use mathlib.Core.Path.{_≡_}
 use Prim.Native.Nat.{ℕ, _+_, _*_, _^_, _<_, _≤_}
 use lib.ListN.{length}
 use Rattle.controller.specs.declared.answers.Answer.{Answer}
-use Rattle.controller.specs.declared.answers.Answer.the-variants.{Done, BadLine}
+use Rattle.controller.specs.declared.answers.Answer.the-variants.{Done}
 use Rattle.controller.specs.Answers.{isRefusal, numberOf, Row, Tells}
 use Rattle.controller.specs.Record.{sound}
 use Rattle.controller.specs.declared.sent.Sent.{Sent}
@@ -16,6 +16,8 @@ use Rattle.lines.specs.declared.writer.Written.{Written}
 use Rattle.lines.specs.Line.{linesOf}
 use Rattle.lines.specs.ReportText.{header, row}
 use Rattle.lines.specs.Theorems.{AllSayable, Starts, NoSession}
+use Rattle.lines.specs.Faults.{IsFault, sessionRows}
+use Rattle.lines.specs.Reading.{lineOf}
 use Rattle.lines.specs.Writing.{Writes}
 use Rattle.lines.specs.Session.{readUpTo, sessionOf}
 use Rattle.player.specs.declared.through.Standing.{Standing}
@@ -26,9 +28,11 @@ use Rattle.player.specs.Standing.{answersTo, countingAll, noRefusal, sta
 abbrev pub ReportTells : Type 0
 ReportTells = (ts : List Sent) → AllSayable ts → report (linesOf ts) ≡ header ++ rowsFrom 1 (heard start ts)
 
--- A session ends with its text or at a bad line, whose answer is 12.
+-- A session ends with its text; or the text is no session, and it ends at a bad line with one of 16 to 19.
 abbrev pub SessionEnds : Type 0
-SessionEnds = (text : List ℕ) → (sessionOf text .end ≡ Done) ⊎ (sessionOf text .end ≡ BadLine)
+SessionEnds =
+    (text : List ℕ)
+    → ((NoSession text → ⊥) × (sessionOf text .end ≡ Done)) ⊎ (NoSession text × IsFault (sessionOf text .end))
 
 -- A buffer of six bytes for each byte of the text and 62 more always serves, for any text that a memory can hold.
 abbrev pub ReportFits : Type 0
@@ -42,10 +46,6 @@ playRows text out = record { number = 11; applies = length out < 6 * length text
 abbrev pub PlayAnswers : Type 0
 PlayAnswers = (text out : List ℕ) → Tells (numberOf (playing text out .answer)) (playRows text out)
 
--- The row of play_through: 12.
-unfoldable pub throughRows : List ℕ → List Row
-throughRows text = record { number = 12; applies = NoSession text } ∷ []
-
 -- So many lines reach the end of the text: it has fewer transfers, and what is after them is looked at too.
 abbrev pub Reaches : ℕ → List ℕ → Type 0
 Reaches most text = length (sessionOf text .sent) < most
@@ -54,9 +54,9 @@ Reaches most text = length (sessionOf text .sent) < most
 abbrev pub LongReaches : Type 0
 LongReaches = (text : List ℕ) (most : ℕ) → length text < most → Reaches most text
 
--- 12 is given exactly where the text is no session, if so many lines reach its end.
+-- Each of 16 to 19 is given exactly where it is the first fault of the text's bad line, if so many lines reach its end.
 abbrev pub ThroughAnswers : Type 0
-ThroughAnswers = (text : List ℕ) (most : ℕ) → Reaches most text → Tells (numberOf (standing text most .answer)) (throughRows text)
+ThroughAnswers = (text : List ℕ) (most : ℕ) → Reaches most text → Tells (numberOf (standing text most .answer)) (sessionRows text)
 
 -- Lines of transfers, and as many asked for: they stand as they do alone, whatever is after them, a bad line too.
 abbrev pub MostStops : Type 0
@@ -64,17 +64,21 @@ MostStops =
     (ts : List Sent) (more : List ℕ) (most : ℕ) → AllSayable ts → Reaches most (linesOf ts)
     → standing (linesOf ts ++ more) (length ts) ≡ standing (linesOf ts) most
 
--- Lines of transfers, and then something that no line starts: the bad line. Its row has its number, answer 12, byte 00 and the
--- busy as it stands, and ends the report; the bench stands as the transfers before it leave it.
-pub record BadLineTold (ts : List Sent) (text : List ℕ) (most : ℕ) : Type 0 where
-  pub row : report text ≡ header ++ (rowsFrom 1 (heard start ts) ++ row (1 + length ts) 12 0x00 (ran start ts .rec .busy))
-  pub stands : standing text most ≡ stood BadLine (1 + length ts) (ran start ts) (countingAll noRefusal 1 (answersTo start ts))
+-- Lines of transfers, and then something that no line starts: the bad line. Its row has its number, the reader's answer to it
+-- (`ReaderAnswers`), byte 00 and the busy as it stands, and ends the report; the bench stands as the transfers before it
+-- leave it.
+pub record BadLineTold (ts : List Sent) (more : List ℕ) (most : ℕ) : Type 0 where
+  pub row : report (linesOf ts ++ more)
+      ≡ header
+      ++ (rowsFrom 1 (heard start ts) ++ row (1 + length ts) (numberOf (lineOf more .answer)) 0x00 (ran start ts .rec .busy))
+  pub stands : standing (linesOf ts ++ more) most
+      ≡ stood (lineOf more .answer) (1 + length ts) (ran start ts) (countingAll noRefusal 1 (answersTo start ts))
 
 -- So with every bad line, wherever it stands, if so many lines reach it.
 abbrev pub BadLineEnds : Type 0
 BadLineEnds =
     (ts : List Sent) (more : List ℕ) (most : ℕ) → AllSayable ts → 0 < length more → (Starts more → ⊥) → length ts < most
-    → BadLineTold ts (linesOf ts ++ more) most
+    → BadLineTold ts more most
 
 -- No second answer fits.
 abbrev pub OnePlay : Type 0

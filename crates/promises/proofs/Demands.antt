@@ -21,7 +21,7 @@ use Rattle.interface.proofs.Theorems.Answers.{call-answers}
 use Rattle.interface.proofs.Theorems.Refusals.{call-refusals}
 use Rattle.lines.proofs.Laws.Nothing.{WritesNothing, wanting-nothing, writer-nothing}
 use Rattle.lines.proofs.Theorems.One.{one-reading, writer-answers, text-answers}
-use Rattle.lines.proofs.Theorems.Read.{reader-answers, read-writes-back}
+use Rattle.lines.proofs.Theorems.Read.{read-or-refused, reader-answers, read-writes-back}
 use Rattle.lines.proofs.Theorems.Written.{buffer-reads-back, written-reads-back}
 use Rattle.lines.specs.Writing.{Writing, onto}
 use Rattle.lines.specs.declared.writer.Written.{Written}
@@ -75,6 +75,7 @@ demand-1 =
       reset = reset-refusals;
       picture = picture-refusals;
       plan = plan-refusals;
+      reader = read-or-refused;
       writer = λ kind byte wait out. leaves _ out (writer-nothing kind byte wait out);
       texts = λ size text out. leaves _ out (wanting-nothing size text out);
       play = λ text out. leaves _ out (play-nothing text out);

@@ -5,7 +5,8 @@ use Rattle.controller.specs.Theorems.{TransferAnswers, LoanAnswers, ResetAnswer
 use Rattle.drawing.specs.Theorems.{DrawAnswers}
 use Rattle.dots.specs.Theorems.{PictureAnswers}
 use Rattle.interface.specs.Theorems.{CallAnswers}
-use Rattle.lines.specs.Theorems.{ReaderAnswers, WriterAnswers, TextAnswers}
+use Rattle.lines.specs.Faults.{ReaderAnswers}
+use Rattle.lines.specs.Theorems.{WriterAnswers, TextAnswers}
 use Rattle.planner.specs.Theorems.{PlanAnswers}
 use Rattle.player.specs.Theorems.{PlayAnswers, ThroughAnswers}
 

@@ -16,6 +16,7 @@ use Rattle.drawing.specs.Theorems.{DrawRefusals}
 use Rattle.dots.specs.Theorems.{CursorShows, EachByte, EightRows, FAltersNothing, FiveDots, LaterStay, LineShows, OffDark}
 use Rattle.dots.specs.Theorems.{PatternShows, PictureRefusals, PositionDots, SecondLineDark, TableRows, TableShapes, TableShows}
 use Rattle.interface.specs.Theorems.{CallRefusals}
+use Rattle.lines.specs.Faults.{ReadOrRefused}
 use Rattle.lines.specs.Theorems.{BufferReadsBack, WrittenReadsBack, ReadWritesBack, OneReading}
 use Rattle.lines.specs.Writing.{Writing, Writes, wanting, lineWriting}
 use Rattle.lines.specs.declared.writer.Written.{Written}
@@ -44,6 +45,7 @@ pub record Demand1 : Type 0 where
   pub reset : ResetRefusals
   pub picture : PictureRefusals
   pub plan : PlanRefusals
+  pub reader : ReadOrRefused
   pub writer : (kind byte wait : ℕ) (out : List ℕ) → LeavesBuffer (lineWriting kind byte wait out) out
   pub texts : (size : ℕ) (text out : List ℕ) → LeavesBuffer (wanting size text out) out
   pub play : (text out : List ℕ) → LeavesBuffer (playing text out) out

@@ -4,7 +4,7 @@ ghost use mathlib.Core.Path.{_≡_};
 ghost use Prim.Native.Nat.{_+_, _*_, _≤_};
 ghost use lib.ListN.{length};
 ghost use Rattle.controller.specs.declared.answers.Answer.the-variants.{Done};
-use check::same;
+use controller::is_done;
 use libc::STDOUT_FILENO;
 use lines::Written;
 use lines::first;
@@ -35,18 +35,13 @@ fn print(text: &[u8]) {
     }
 }
 
-// Whether a report ends with the row of a bad line: before its last tab stand answer 12 and byte 00, and no transfer is
-// answered 12.
-fn ends_badly(report: &[u8]) -> bool {
-    let mut at = report.len();
-    while 6 < at {
-        at -= 1;
-        if report[at] == b'\t' {
-            let from = at - 6;
-            return same(&report[from..at], b"\t12\t00");
-        }
+// Tells of the bad line that ended a session, if one did.
+fn tell_end(text: &[u8]) {
+    let standing = play_through(text, u64::MAX);
+    let answer = standing.answer;
+    if !is_done(answer) {
+        tell_bad_line(b"session", standing.number);
     }
-    false
 }
 
 fn report(text: &[u8])
@@ -54,11 +49,8 @@ fn report(text: &[u8])
 {
     let mut out = [0u8; OUTPUT];
     let written = write_report(text, &mut out);
-    let report = first(&out, written.length);
-    print(report);
-    if ends_badly(report) {
-        tell_bad_line(b"session", play_through(text, u64::MAX).number);
-    }
+    print(first(&out, written.length));
+    tell_end(text);
 }
 
 fn main() {

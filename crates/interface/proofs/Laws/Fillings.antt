@@ -17,7 +17,7 @@ use Rattle.lines.specs.Writing.{Writing, lineWriting, refusing, wanting, writin
 use Rattle.lines.specs.Writing as Writing'
 use Rattle.lines.specs.declared.reader.Line.{Line}
 use Rattle.lines.specs.Reading.{lineOf}
-use Rattle.lines.proofs.Theorems.Read.{reader-answers, read-is-sayable}
+use Rattle.lines.proofs.Theorems.Read.{read-or-refused, read-is-sayable}
 use Rattle.lines.proofs.Theorems.Written.{lines-fit}
 use Rattle.interface.specs.CaptureCalls.{farFillingOf}
 use Rattle.interface.specs.Filling.{Fills}
@@ -59,8 +59,8 @@ pub read-short : (text : List ℕ) → lineOf text .length ≤ 468
 read-short text =
     ⊎-elim
     (λ stands. let short = read-is-sayable text (stands .1) .2 in omega arith)
-    (λ bad. let none = ap (λ (l : Line). l .length) (bad .1) in omega arith)
-    (reader-answers text)
+    (λ bad. let none = ap (λ (l : Line). l .length) (bad .1 .zeros) in omega arith)
+    (read-or-refused text)
 
 -- and so is the length of what was read
 pub line-told-short : (line : Line) (text : List ℕ) → line ≡ lineOf text → line .length ≤ 468

@@ -1,7 +1,7 @@
 -- Each call tells each number exactly where its row applies: that the answer can be taken out of what is returned, and then the
 -- theorems of the crates beneath.
 -- Assumes nothing.
-use mathlib.Core.Bool.{Bool, true, false, cond, not, _&&_, true≢false, false≢true}
+use mathlib.Core.Bool.{Bool, true, false, cond, not, _&&_, true≢false}
 use mathlib.Core.List.{List, _∷_}
 use mathlib.Core.Logic.{inl, ⊎-elim}
 use mathlib.Core.Path.{_≡_, refl, sym, ap, subst, _∙_}
@@ -11,13 +11,13 @@ use lib.Dec.{eqb, ltb}
 use lib.ListN.{length}
 use borrow.Author.Tests.{not-false}
 use Rattle.controller.specs.declared.answers.Answer.{Answer}
-use Rattle.controller.specs.declared.answers.Answer.the-variants.{Done, NotWhole, BadLine, NotWish}
+use Rattle.controller.specs.declared.answers.Answer.the-variants.{Done, NotWhole, NotWish}
 use Rattle.controller.specs.declared.«record».Record.{Record}
 use Rattle.controller.specs.Bus.{decided, resetDecided, whole}
-use Rattle.controller.specs.Answers.{numberOf, Given, Row, Tells}
+use Rattle.controller.specs.Answers.{isDone, numberOf, Given, Row, Tells}
 use Rattle.controller.specs.Record.{sound}
 use Rattle.controller.specs.Rows.{Breaks, resetRows, transferRows}
-use Rattle.controller.proofs.Laws.Answers.{none-applies, row-applies, tells-as}
+use Rattle.controller.proofs.Laws.Answers.{none-applies, number-below, row-applies, tells-as}
 use Rattle.controller.proofs.Laws.Choice.{cond-map}
 use Rattle.controller.proofs.Laws.Rows.{sound-tests, whole-tests}
 use Rattle.controller.proofs.Laws.Tests.{Tests, fails-eq, tests-as, tests-fails, tests-lt}
@@ -30,12 +30,13 @@ use Rattle.dots.specs.Picture.{answered}
 use Rattle.dots.specs.Theorems.{pictureRows, rowsFor}
 use Rattle.dots.proofs.Theorems.{picture-answers}
 use Rattle.lines.specs.declared.reader.Line.{Line}
-use Rattle.lines.specs.Reading.{lineOf, refusedLine}
+use Rattle.lines.specs.Reading.{lineOf}
 use Rattle.lines.specs.Theorems.{writerRows}
 use Rattle.lines.specs.Writing.{lineWriting}
 use Rattle.lines.proofs.Laws.Digits.{either}
 use Rattle.lines.proofs.Theorems.One.{writer-answers}
-use Rattle.lines.proofs.Theorems.Read.{reader-answers}
+use Rattle.lines.proofs.Theorems.Read.{read-or-refused, read-rows, refused-rows}
+use Rattle.lines.proofs.Theorems.Session.{fault-not-good}
 use Rattle.planner.specs.declared.wish.Wish.{Wish}
 use Rattle.planner.specs.Call.{replyTo}
 use Rattle.planner.specs.Theorems.{NotWished, planRows}
@@ -188,9 +189,9 @@ stored-number line out done =
     (cond-map (λ (call : Filling). answerIn (call .returned)) (ltb (length out) 6) _ _ 11 0 (λ _. refl) (λ _. answer-in Done (line .length)))
 
 -- and one that was not
-bad-number : (line : Line) (place : ℕ) (out : List ℕ) → line ≡ refusedLine BadLine place → answerIn (stored line out .returned) ≡ 12
+bad-number : (line : Line) (out : List ℕ) → isDone (line .answer) ≡ false → answerIn (stored line out .returned) ≡ numberOf (line .answer)
 unfolding stored
-bad-number line place out bad = rw bad refl
+bad-number line out bad = simp bad (let below = number-below (line .answer) in omega arith)
 
 read-tells : (text out : List ℕ) → Tells (answerIn (stored (lineOf text) out .returned)) (readRows text out)
 unfolding readRows
@@ -198,12 +199,11 @@ read-tells text out =
     ⊎-elim
     (λ good.
     tells-as _ _ _ (stored-number (lineOf text) out (good .1))
-    (row-applies _ _ false _ (record { yes = λ e. absurd (false≢true e); no = λ _ none. none (good .0) })
-    (λ _. row-applies _ _ _ _ (tests-lt (length out) 6) (λ _. none-applies))))
+    (read-rows text _ _ (good .0) (row-applies _ _ _ _ (tests-lt (length out) 6) (λ _. none-applies))))
     (λ bad.
-    tells-as _ _ _ (bad-number (lineOf text) (lineOf text .offset) out (bad .1))
-    (row-applies _ _ true 0 (record { yes = λ _. bad .0; no = λ e _. true≢false e }) (λ never. absurd (never (bad .0)))))
-    (reader-answers text)
+    tells-as _ _ _ (bad-number (lineOf text) out (fault-not-good (lineOf text .answer) (bad .1 .fault)))
+    (refused-rows text _ (bad .0)))
+    (read-or-refused text)
 
 import-tells : (capture out : List ℕ) → Tells (answerIn (importCall capture out .returned)) (importRows capture out)
 import-tells capture out =

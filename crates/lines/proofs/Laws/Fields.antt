@@ -1,30 +1,35 @@
 -- Laws of a line's fields as they are read: what stands before each place, and that the reader looks no further than the byte at
 -- which it stops.
 -- Assumes nothing.
-use mathlib.Core.Bool.{true, false, not}
+use mathlib.Core.Bool.{true, false}
 use mathlib.Core.List.{List, [], _∷_, _++_, append-assoc}
-use mathlib.Core.Path.{_≡_, refl, sym, ap, subst, _∙_}
+use mathlib.Core.Logic.{⊎-elim}
+use mathlib.Core.Path.{_≡_, refl, sym, ap, _∙_}
 use Prim.Native.Nat.{ℕ, suc, _+_, _*_, _/_, _%_, _<_, _≤_}
 use native.Mathlib.Omega.{arith}
+use native.Mathlib.Nat.{add-zero}
 use borrow.Author.Tests.{ltb-true, ltb-false, eqb-true, le-ltb}
 use lib.Dec.{ltb, leb, eqb}
-use lib.ListN.{length, take, drop, length-drop, List·getD-append, List·getD-eq-default}
-use lib.Seq.{getD-take, length-take-le, take-suc, take-add, take-append-add}
+use lib.ListN.{length, take, drop, getD, length-drop, take-append-drop, List·getD-append, List·getD-eq-default}
+use lib.Seq.{getD-drop, getD-take, length-take-le, take-suc, take-add, take-append-add}
 use Rattle.controller.specs.declared.answers.Answer.{Answer}
-use Rattle.controller.specs.declared.answers.Answer.the-variants.{BadLine}
+use Rattle.controller.specs.declared.answers.Answer.the-variants.{BadKind, BadByte, BadWait, NoNewline}
 use Rattle.controller.specs.Bus.{badTransfer}
-use Rattle.lines.specs.declared.reader.Field.{Field}
+use Rattle.controller.specs.Answers.{numberOf}
 use Rattle.lines.specs.declared.reader.Field.the-variants.{Stands, Fault}
 use Rattle.lines.specs.declared.reader.Wait.{Wait}
 use Rattle.lines.specs.declared.reader.Wait.the-variants.{Good, Bad}
-use Rattle.lines.specs.Digits.{tab, newline, digit, worthOf, hexPair, byteField, numberField}
-use Rattle.lines.specs.Line.{line, letterOf, kindField, kindOf}
-use Rattle.lines.specs.Reading.{textAt, kindRead, digitStands, byteRead, waitOf, refusedLine, withWait, withByte, withKind, lineOf}
-use Rattle.lines.specs.Theorems.{Sayable}
-use Rattle.lines.proofs.Laws.Digits.{either, digit-worth}
+use Rattle.lines.specs.Digits.{tab, newline, digit, worthOf, decimal, hexPair, byteField, numberField}
+use Rattle.lines.specs.Line.{line, letterOf, kindField, kindOf, waitLimit}
+use Rattle.lines.specs.Reading.{textAt, kindRead, digitStands, byteRead, restOf, waitOf, refusedLine, withWait, withByte, withKind, lineOf}
+use Rattle.lines.specs.Theorems.{Sayable, Starts}
+use Rattle.lines.specs.Faults.{KindStands, ByteStands, NoDigit, WaitStands, numberAt}
+use Rattle.lines.proofs.Laws.Digits.{either, worth-digit, digit-worth}
 use Rattle.lines.proofs.Laws.Kinds.{letter-kind}
 use Rattle.lines.proofs.Laws.Steps.{digit-below, digits-stand, digit-stands}
-use Rattle.lines.proofs.Laws.Waits.{begun, wait-begun, Halts, begun-halts}
+use Rattle.lines.proofs.Laws.Parts.{kind-read, byte-kind-read, byte-read, wait-after, wait-not-bad}
+use Rattle.lines.proofs.Laws.Places.{number-kind, number-byte, number-wait}
+use Rattle.lines.proofs.Laws.Waits.{begun, decimal-reads, wait-begun, Halts, begun-halts}
 
 -- a byte that is not 00h stands in the text
 inside-at : (text : List ℕ) (place byte : ℕ) → textAt text place ≡ byte → 0 < byte → place < length text
@@ -110,7 +115,7 @@ byte-same kind text other a b c = simp (a, b, c)
 
 module _ (text : List ℕ) where
   -- a letter that cannot stand
-  no-letter : ltb 3 (kindOf (textAt text 0)) ≡ true → FaultAt text BadLine 0
+  no-letter : ltb 3 (kindOf (textAt text 0)) ≡ true → FaultAt text BadKind 0
   unfolding lineOf withKind kindRead
   no-letter e =
       record {
@@ -136,7 +141,7 @@ module _ (text : List ℕ) where
     has-letter = inside-at text 0 (textAt text 0) refl (letter-some (textAt text 0) is-kind)
 
     -- a tab that does not stand after it
-    no-tab : eqb (textAt text 1) tab ≡ false → FaultAt text BadLine 1
+    no-tab : eqb (textAt text 1) tab ≡ false → FaultAt text BadKind 1
     unfolding lineOf withKind kindRead line kindField
     no-tab e =
         let below = is-kind in
@@ -168,10 +173,13 @@ module _ (text : List ℕ) where
         }
 
   -- a kind stands, or it has a fault
-  kind-cases : {A : Type 0} → ((kind : ℕ) → KindIs text kind → A) → ((place : ℕ) → place ≤ 1 → FaultAt text BadLine place → A) → A
+  kind-cases : {A : Type 0} → ((kind : ℕ) → KindIs text kind → A) → ((place : ℕ) → place ≤ 1 → kindRead text ≡ Fault BadKind place → FaultAt text BadKind place → A) → A
+  unfolding kindRead
   kind-cases stands faults =
-      either (ltb 3 (kindOf (textAt text 0))) (λ e. faults 0 (omega arith) (no-letter e))
-      (λ e. either (eqb (textAt text 1) tab) (λ t. stands (kindOf (textAt text 0)) (kind-is e t)) (λ t. faults 1 (omega arith) (no-tab e t)))
+      either (ltb 3 (kindOf (textAt text 0))) (λ e. faults 0 (omega arith) (simp e) (no-letter e))
+      (λ e. either (eqb (textAt text 1) tab)
+      (λ t. stands (kindOf (textAt text 0)) (kind-is e t))
+      (λ t. faults 1 (omega arith) (simp (e, t)) (no-tab e t)))
 
   module _ (kind : ℕ) (of : KindIs text kind) where
     kind-again : (more : List ℕ) (place : ℕ) → place < length text → 1 ≤ place → kindRead (take (suc place) text ++ more) ≡ Stands kind
@@ -180,7 +188,7 @@ module _ (text : List ℕ) where
         ∙ of .reads
 
     -- a first digit that cannot stand
-    no-high : digitStands kind (worthOf (textAt text 2)) ≡ false → FaultAt text BadLine 2
+    no-high : digitStands kind (worthOf (textAt text 2)) ≡ false → FaultAt text BadByte 2
     unfolding lineOf withKind withByte byteRead line kindField
     no-high e =
         record {
@@ -206,7 +214,7 @@ module _ (text : List ℕ) where
       three = take-more text 2 has-high ∙ simp (of .first, digit-worth (textAt text 2) high-below)
 
       -- a second one that cannot
-      no-low : digitStands kind (worthOf (textAt text 3)) ≡ false → FaultAt text BadLine 3
+      no-low : digitStands kind (worthOf (textAt text 3)) ≡ false → FaultAt text BadByte 3
       unfolding lineOf withKind withByte byteRead line kindField byteField
       no-low e =
           let below = high-below in
@@ -255,7 +263,7 @@ module _ (text : List ℕ) where
             }
 
         -- a tab that does not stand after them
-        no-second-tab : eqb (textAt text 4) tab ≡ false → FaultAt text BadLine 4
+        no-second-tab : eqb (textAt text 4) tab ≡ false → FaultAt text BadByte 4
         unfolding lineOf withKind withByte byteRead line kindField byteField
         no-second-tab e =
             record {
@@ -286,15 +294,17 @@ module _ (text : List ℕ) where
             }
 
     -- a byte stands, or it has a fault
-    byte-cases : {A : Type 0} → ((byte : ℕ) → ByteIs text kind byte → A) → ((place : ℕ) → 2 ≤ place → place ≤ 4 → FaultAt text BadLine place → A) → A
+    byte-cases : {A : Type 0} → ((byte : ℕ) → ByteIs text kind byte → A)
+        → ((place : ℕ) → 2 ≤ place → place ≤ 4 → byteRead kind text ≡ Fault BadByte place → FaultAt text BadByte place → A) → A
+    unfolding byteRead
     byte-cases stands faults =
         either (digitStands kind (worthOf (textAt text 2)))
         (λ a. either (digitStands kind (worthOf (textAt text 3)))
         (λ b. either (eqb (textAt text 4) tab)
         (λ t. stands (byteAt text) (byte-is a b t))
-        (λ t. faults 4 (omega arith) (omega arith) (no-second-tab a b t)))
-        (λ b. faults 3 (omega arith) (omega arith) (no-low a b)))
-        (λ a. faults 2 (omega arith) (omega arith) (no-high a))
+        (λ t. faults 4 (omega arith) (omega arith) (simp (a, b, t)) (no-second-tab a b t)))
+        (λ b. faults 3 (omega arith) (omega arith) (simp (a, b)) (no-low a b)))
+        (λ a. faults 2 (omega arith) (omega arith) (simp a) (no-high a))
 
 -- a wait that has a fault
 module _ (text : List ℕ) (kind byte : ℕ) (is : ByteIs text kind byte) (answer : Answer) (at : ℕ) (bad : waitOf text ≡ Bad answer at) where
@@ -346,17 +356,123 @@ module _ (text : List ℕ) (kind byte : ℕ) (is : ByteIs text kind byte) (answe
             );
       }
 
--- a line is read, or it has a fault
+-- which fault it is: the first part that does not stand
+pub data Which (text : List ℕ) (answer : Answer) : Type 0 where
+  no-kind : answer ≡ BadKind → (KindStands text → ⊥) → Which text answer
+  no-byte : answer ≡ BadByte → KindStands text → (ByteStands text → ⊥) → Which text answer
+  no-wait : answer ≡ BadWait → ByteStands text → (WaitStands text → ⊥) → Which text answer
+  no-end : answer ≡ NoNewline → WaitStands text → (Starts text → ⊥) → Which text answer
+
+-- a kind that stands begins the text
+kind-begins : (text : List ℕ) (kind : ℕ) → KindIs text kind → KindStands text
+kind-begins text kind of =
+    record {
+      kind = kind;
+      byte = 0;
+      wait = 0;
+      more = drop 2 text;
+      sayable = with-kind kind (of .below);
+      stands = sym (take-append-drop 2 text) ∙ ap (λ (l : List ℕ). l ++ drop 2 text) (of .first);
+    }
+
+-- and so does a byte
+byte-begins : (text : List ℕ) (kind byte : ℕ) → ByteIs text kind byte → ByteStands text
+byte-begins text kind byte is =
+    record {
+      kind = kind;
+      byte = byte;
+      wait = 0;
+      more = drop 5 text;
+      sayable = record { transfer = is .good; is-byte = is .is-byte; is-wait = omega arith };
+      stands = sym (take-append-drop 5 text) ∙ ap (λ (l : List ℕ). l ++ drop 5 text) (is .first);
+    }
+
+-- a kind at fault does not stand
+kind-lacks : (text : List ℕ) (place : ℕ) → kindRead text ≡ Fault BadKind place → KindStands text → ⊥
+kind-lacks text place bad b = let good = kind-read text b in let no : _≡_ {A = ℕ} 0 1 = cc in omega arith
+
+-- nor does a byte
+byte-lacks : (text : List ℕ) (kind place : ℕ) → kindRead text ≡ Stands kind → byteRead kind text ≡ Fault BadByte place → ByteStands text → ⊥
+byte-lacks text kind place of bad b =
+    let own = byte-kind-read text b in
+    let same : kind ≡ b .kind = cc in
+    let good = byte-read text b in
+    let no : _≡_ {A = ℕ} 0 1 = cc in
+    omega arith
+
+-- where no digit is next none stands
+next-no-digit : (rest : List ℕ) (count : ℕ) → 9 < worthOf (textAt rest count) → NoDigit (drop count rest)
+unfolding textAt
+next-no-digit rest count large number more small is =
+    let there : getD rest count 0 ≡ digit number =
+    ap (λ (n : ℕ). getD rest n 0) (sym (add-zero count)) ∙ sym (getD-drop count rest 0 0) ∙ ap (λ (l : List ℕ). getD l 0 0) is in
+    let worth = ap worthOf there ∙ worth-digit number (omega arith) in
+    omega arith
+
+-- a wait whose digits all stand begins the text
+wait-begins : (text : List ℕ) (kind byte count wait : ℕ) → ByteIs text kind byte → wait ≤ waitLimit → take count (drop 5 text) ≡ decimal wait
+    → 9 < worthOf (textAt (drop 5 text) count) → WaitStands text
+wait-begins text kind byte count wait is below digits large =
+    record {
+      begins = record {
+        kind = kind;
+        byte = byte;
+        wait = wait;
+        more = drop count (drop 5 text);
+        sayable = record { transfer = is .good; is-byte = is .is-byte; is-wait = below };
+        stands = sym (take-append-drop 5 text)
+            ∙ ap (λ (l : List ℕ). take 5 text ++ l) (sym (take-append-drop count (drop 5 text)))
+            ∙ simp (is .first, digits, append-assoc);
+      };
+      all = next-no-digit (drop 5 text) count large;
+    }
+
+-- no line starts a text whose wait is at fault
+line-lacks : (text : List ℕ) (kind byte : ℕ) (answer : Answer) (at : ℕ) → ByteIs text kind byte → waitOf text ≡ Bad answer at → Starts text → ⊥
+unfolding line numberField restOf
+line-lacks text kind byte answer at is bad s =
+    let good = ap waitOf (s .stands ∙ simp append-assoc) ∙ wait-after (s .kind) (s .byte) (decimal (s .wait) ++ (newline ∷ s .more))
+    ∙ decimal-reads 5 (s .wait) (newline ∷ s .more) (s .sayable .is-wait) in
+    go good
+  where
+    go : waitOf text ≡ restOf (5 + length (decimal (s .wait))) (s .wait) (newline ∷ s .more) → ⊥
+    go good = let no : _≡_ {A = ℕ} 0 1 = cc in omega arith
+
+module _ (text : List ℕ) (kind byte : ℕ) (is : ByteIs text kind byte) (answer : Answer) (at : ℕ) (bad : waitOf text ≡ Bad answer at) where
+  wait-which : Which text answer
+  wait-which =
+      let h = halts text kind byte is answer at bad in
+      let eighteen : answer ≡ BadWait → Which text answer =
+      λ e. no-wait e (byte-begins text kind byte is) (λ w. wait-not-bad text at w (bad ∙ ap (λ (a : Answer). Bad a at) e)) in
+      ⊎-elim (λ none. eighteen (none .0))
+      (λ some. ⊎-elim (λ digit. eighteen (digit .0))
+      (λ other.
+      no-end (other .0) (wait-begins text kind byte (h .count) (h .wait) is (h .below) (some .1) (other .1)) (line-lacks text kind byte answer at is bad))
+      (some .2))
+      (h .why)
+
+  wait-number : numberOf answer ≡ numberAt text at
+  wait-number =
+      let h = halts text kind byte is answer at bad in
+      number-wait text kind byte (h .count) (h .wait) answer (h .inside) (more-than-five text kind byte is answer at bad (h .count)) (h .why)
+      ∙ ap (numberAt text) (sym (h .is-place))
+
+-- a line is read, or it has a fault: where it is, which it is, and its number by its place
 pub line-cases : {A : Type 0} (text : List ℕ)
     → ((kind byte wait end : ℕ) → ByteIs text kind byte → waitOf text ≡ Good wait end → A)
-    → ((place : ℕ) → FaultAt text BadLine place → A) → A
+    → ((answer : Answer) (place : ℕ) → FaultAt text answer place → Which text answer → numberOf answer ≡ numberAt text place → A) → A
 line-cases {A} text stands faults =
     kind-cases text
-    (λ kind of. byte-cases text kind of (λ byte is. go kind byte is (waitOf text) refl) (λ place _ _ fault. faults place fault))
-    (λ place _ fault. faults place fault)
+    (λ kind of.
+    byte-cases text kind of (λ byte is. go kind byte is (waitOf text) refl)
+    (λ place many few bad fault.
+    faults BadByte place fault (no-byte refl (kind-begins text kind of) (byte-lacks text kind place (of .reads) bad))
+    (sym (number-byte text (fault .kind) (fault .byte) (fault .wait) place many few (fault .first)))))
+    (λ place few bad fault.
+    faults BadKind place fault (no-kind refl (kind-lacks text place bad))
+    (sym (number-kind text (fault .kind) (fault .byte) (fault .wait) place few (fault .first))))
   where
     go : (kind byte : ℕ) → ByteIs text kind byte → (w : Wait) → waitOf text ≡ w → A
     go kind byte is (Good wait end) e = stands kind byte wait end is e
     go kind byte is (Bad answer at) e =
-        let which = halts text kind byte is answer at e .which in
-        faults at (subst (λ (a : Answer). FaultAt text a at) which (wait-faults text kind byte is answer at e))
+        faults answer at (wait-faults text kind byte is answer at e) (wait-which text kind byte is answer at e) (wait-number text kind byte is answer at e)

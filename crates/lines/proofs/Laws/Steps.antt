@@ -6,12 +6,12 @@ use mathlib.Core.Path.{_≡_, sym}
 use Prim.Native.Nat.{ℕ, _+_, _*_, _<_, _≤_}
 use native.Mathlib.Numerals.{add-one}
 use native.Mathlib.Omega.{arith}
-use lib.Dec.{ltb, leb, eqb}
+use lib.Dec.{ltb, leb}
 use lib.ListN.{length, getD, drop, drop-of-length-le}
 use lib.Seq.{drop-cons}
 use borrow.Author.Tests.{ltb-true, ltb-false, leb-true, eqb-true, lt-ltb, le-ltb, le-leb, lt-leb, eq-eqb, ne-eqb}
 use Rattle.controller.proofs.Laws.Choice.{and-left, and-right}
-use Rattle.controller.specs.declared.answers.Answer.the-variants.{BadLine}
+use Rattle.controller.specs.declared.answers.Answer.the-variants.{BadWait, NoNewline}
 use Rattle.controller.specs.Bus.{badTransfer}
 use Rattle.lines.specs.declared.reader.Wait.the-variants.{Good, Bad}
 use Rattle.lines.specs.Digits.{newline, worthOf}
@@ -62,7 +62,7 @@ digit-stands kind byte worth good small part =
     simp (lt-ltb worth 16 small, read, eq-eqb worth 0 (omega arith)))
 
 -- at the text's end no newline stands
-pub rest-none : (text : List ℕ) (place value : ℕ) → length text ≤ place → restOf place value (drop place text) ≡ Bad BadLine place
+pub rest-none : (text : List ℕ) (place value : ℕ) → length text ≤ place → restOf place value (drop place text) ≡ Bad NoNewline place
 unfolding restOf
 rest-none text place value out = rw (drop-of-length-le text out)
 
@@ -74,7 +74,7 @@ module _ (text : List ℕ) (place value : ℕ) (inside : place < length text) wh
 
   module _ (other : getD text place 0 ≡ newline → ⊥) where
     -- a byte that is no digit
-    pub rest-other : 9 < worthOf (getD text place 0) → restOf place value (drop place text) ≡ Bad BadLine place
+    pub rest-other : 9 < worthOf (getD text place 0) → restOf place value (drop place text) ≡ Bad NoNewline place
     unfolding restOf
     rest-other large =
         rw (drop-cons text place 0 inside)
@@ -90,7 +90,7 @@ module _ (text : List ℕ) (place value : ℕ) (inside : place < length text) wh
 
     -- and one that may not
     pub rest-stops : worthOf (getD text place 0) ≤ 9 → mayFollow value (worthOf (getD text place 0)) ≡ false
-        → restOf place value (drop place text) ≡ Bad BadLine place
+        → restOf place value (drop place text) ≡ Bad BadWait place
     unfolding restOf
     rest-stops small may =
         rw (drop-cons text place 0 inside)

@@ -2,15 +2,16 @@
 -- Assumes nothing.
 use mathlib.Core.Bool.{true, false, cond}
 use mathlib.Core.List.{List, [], _∷_, _++_, append-assoc, append-nil}
-use mathlib.Core.Path.{_≡_, refl, sym, ap, _∙_}
+use mathlib.Core.Logic.{_⊎_, inl, inr}
+use mathlib.Core.Path.{_≡_, refl, sym, ap, subst, _∙_}
 use Prim.Native.Nat.{ℕ, zero, suc, _+_, _*_, _/_, _%_, _<_, _≤_}
 use native.Mathlib.Omega.{arith}
 use borrow.Author.Tests.{ltb-true, ltb-false, eqb-true, lt-ltb, le-ltb, le-leb, ne-eqb}
-use lib.Dec.{ltb, eqb}
+use lib.Dec.{ltb, eqb, lit<}
 use lib.ListN.{length, take, drop, length-append}
 use lib.Seq.{drop-drop, getD-drop, length-take-le, take-at}
 use Rattle.controller.specs.declared.answers.Answer.{Answer}
-use Rattle.controller.specs.declared.answers.Answer.the-variants.{BadLine}
+use Rattle.controller.specs.declared.answers.Answer.the-variants.{BadWait, NoNewline}
 use Rattle.lines.specs.declared.reader.Wait.{Wait}
 use Rattle.lines.specs.declared.reader.Wait.the-variants.{Good, Bad}
 use Rattle.lines.specs.Digits.{newline, digit, worthOf, decimal, numberField}
@@ -22,14 +23,14 @@ use Rattle.lines.proofs.Laws.Steps.{follow-digit}
 -- a wait that starts here, at this place of its line
 unfoldable pub begun : ℕ → List ℕ → Wait
 begun place rest =
-    cond (ltb 9 (worthOf (textAt rest 0))) (Bad BadLine place) (restOf (place + 1) (worthOf (textAt rest 0)) (drop 1 rest))
+    cond (ltb 9 (worthOf (textAt rest 0))) (Bad BadWait place) (restOf (place + 1) (worthOf (textAt rest 0)) (drop 1 rest))
 
 -- a line's wait starts at its sixth byte
 pub wait-begun : (text : List ℕ) → waitOf text ≡ begun 5 (drop 5 text)
 unfolding waitOf begun textAt
 wait-begun text = simp (getD-drop, drop-drop)
 
-digit-above : (worth : ℕ) → 0x30 ≤ digit worth
+pub digit-above : (worth : ℕ) → 0x30 ≤ digit worth
 unfolding digit
 digit-above worth = either (ltb (worth % 16) 10) (λ e. simp e (omega arith)) (λ e. simp e (omega arith))
 
@@ -117,7 +118,7 @@ rest-good (byte ∷ rest) place value wait end below good =
     })
     (λ may. let bad = simp (e, f, may) at good in let no : _≡_ {A = ℕ} 0 1 = cc in absurd (omega arith))))
 
-begun-none : (place : ℕ) → begun place [] ≡ Bad BadLine place
+begun-none : (place : ℕ) → begun place [] ≡ Bad BadWait place
 unfolding begun textAt worthOf
 begun-none place = refl
 
@@ -138,12 +139,16 @@ begun-good (byte ∷ rest) place wait end good =
     let long : place + 1 ≡ place + length (decimal (worthOf byte)) = omega (arith, ap length one) in
     rw one at (rest-good rest place (worthOf byte) wait end (omega arith) (rw long at (simp e at good))))
 
+-- why a wait's rest stops at a byte: a digit is 18, any other and the end 19
+abbrev pub Why : Answer → ℕ → Type 0
+Why answer byte = ((answer ≡ BadWait) × (worthOf byte ≤ 9)) ⊎ ((answer ≡ NoNewline) × (9 < worthOf byte))
+
 -- where a wait's rest stops: so many of its bytes stand, they are the last digits of a wait, and whatever is after the byte at
 -- which it stops, it stops there
 pub record Stops (rest : List ℕ) (place value : ℕ) (answer : Answer) (at : ℕ) : Type 0 where
   pub count : ℕ
   pub wait : ℕ
-  pub which : answer ≡ BadLine
+  pub why : Why answer (textAt rest count)
   pub is-place : at ≡ place + count
   pub inside : count ≤ length rest
   pub digits : decimal value ++ take count rest ≡ decimal wait
@@ -151,14 +156,16 @@ pub record Stops (rest : List ℕ) (place value : ℕ) (answer : Answer) (at : �
   pub again : count < length rest → (more : List ℕ) → restOf place value (take (suc count) rest ++ more) ≡ Bad answer at
 
 -- at once
-stops-here : (rest : List ℕ) (place value : ℕ) (answer : Answer) (at : ℕ) → value ≤ waitLimit → Bad BadLine place ≡ Bad answer at
-    → (0 < length rest → (more : List ℕ) → restOf place value (take 1 rest ++ more) ≡ Bad BadLine place) → Stops rest place value answer at
-stops-here rest place value answer at below is again =
+stops-here : (rest : List ℕ) (place value : ℕ) (told answer : Answer) (at : ℕ) → value ≤ waitLimit → Why told (textAt rest 0)
+    → Bad told place ≡ Bad answer at
+    → (0 < length rest → (more : List ℕ) → restOf place value (take 1 rest ++ more) ≡ Bad told place) → Stops rest place value answer at
+stops-here rest place value told answer at below why is again =
     let here : place ≡ at = cc in
+    let same : told ≡ answer = cc in
     record {
       count = 0;
       wait = value;
-      which = cc;
+      why = subst (λ (a : Answer). Why a (textAt rest 0)) same why;
       is-place = omega arith;
       inside = omega arith;
       digits = append-nil (decimal value);
@@ -166,15 +173,23 @@ stops-here rest place value answer at below is again =
       again = λ some more. again some more ∙ is;
     }
 
+-- past the end there is no digit
+past-end : 9 < worthOf (textAt [] 0)
+unfolding textAt worthOf
+past-end = lit< tt
+
 pub rest-stops-at : (rest : List ℕ) (place value : ℕ) (answer : Answer) (at : ℕ) → value ≤ waitLimit → restOf place value rest ≡ Bad answer at
     → Stops rest place value answer at
-unfolding restOf
-rest-stops-at [] place value answer at below bad = stops-here [] place value answer at below bad (λ some. absurd (omega arith))
+unfolding restOf textAt
+rest-stops-at [] place value answer at below bad =
+    stops-here [] place value NoNewline answer at below (inr (refl, past-end)) bad (λ some. absurd (omega arith))
 rest-stops-at (byte ∷ rest) place value answer at below bad =
     either (eqb byte newline)
     (λ e. let good = simp e at bad in let no : _≡_ {A = ℕ} 0 1 = cc in absurd (omega arith))
     (λ e. either (ltb 9 (worthOf byte))
-    (λ f. stops-here (byte ∷ rest) place value answer at below (simp (e, f) at bad) (λ _ more. simp (e, f)))
+    (λ f.
+    stops-here (byte ∷ rest) place value NoNewline answer at below (inr (refl, ltb-true 9 (worthOf byte) f)) (simp (e, f) at bad)
+    (λ _ more. simp (e, f)))
     (λ f. either (mayFollow value (worthOf byte))
     (λ may.
     let small = ltb-false 9 (worthOf byte) f in
@@ -184,7 +199,7 @@ rest-stops-at (byte ∷ rest) place value answer at below bad =
     record {
       count = suc (s .count);
       wait = s .wait;
-      which = s .which;
+      why = s .why;
       is-place = let p = s .is-place in omega arith;
       inside = let i = s .inside in omega arith;
       digits = sym (append-assoc (decimal value) (byte ∷ []) (take (s .count) rest))
@@ -192,14 +207,21 @@ rest-stops-at (byte ∷ rest) place value answer at below bad =
       below = s .below;
       again = λ some more. simp (e, f, may) (s .again (omega arith) more);
     })
-    (λ may. stops-here (byte ∷ rest) place value answer at below (simp (e, f, may) at bad) (λ _ more. simp (e, f, may)))))
+    (λ may.
+    stops-here (byte ∷ rest) place value BadWait answer at below (inl (refl, ltb-false 9 (worthOf byte) f)) (simp (e, f, may) at bad)
+    (λ _ more. simp (e, f, may)))))
+
+-- why a wait stops after so many bytes: before the first it is 18, and then as its rest has it, behind all digits of a wait
+abbrev pub WhyHalts : Answer → List ℕ → ℕ → ℕ → Type 0
+WhyHalts answer rest count wait =
+    ((answer ≡ BadWait) × (count ≡ 0)) ⊎ ((0 < count) × (take count rest ≡ decimal wait) × Why answer (textAt rest count))
 
 -- where a wait stops: so many of its bytes stand, they are the first of a wait's field, and whatever is after the byte at which
 -- it stops, it stops there
 pub record Halts (rest : List ℕ) (place : ℕ) (answer : Answer) (at : ℕ) : Type 0 where
   pub count : ℕ
   pub wait : ℕ
-  pub which : answer ≡ BadLine
+  pub why : WhyHalts answer rest count wait
   pub is-place : at ≡ place + count
   pub inside : count ≤ length rest
   pub first : take count rest ≡ take count (numberField wait newline)
@@ -208,14 +230,15 @@ pub record Halts (rest : List ℕ) (place : ℕ) (answer : Answer) (at : ℕ) : 
   pub again : count < length rest → (more : List ℕ) → begun place (take (suc count) rest ++ more) ≡ Bad answer at
 
 -- before its first digit
-halts-here : (rest : List ℕ) (place : ℕ) (answer : Answer) (at : ℕ) → Bad BadLine place ≡ Bad answer at
-    → (0 < length rest → (more : List ℕ) → begun place (take 1 rest ++ more) ≡ Bad BadLine place) → Halts rest place answer at
+halts-here : (rest : List ℕ) (place : ℕ) (answer : Answer) (at : ℕ) → Bad BadWait place ≡ Bad answer at
+    → (0 < length rest → (more : List ℕ) → begun place (take 1 rest ++ more) ≡ Bad BadWait place) → Halts rest place answer at
 halts-here rest place answer at is again =
     let here : place ≡ at = cc in
+    let same : answer ≡ BadWait = cc in
     record {
       count = 0;
       wait = 0;
-      which = cc;
+      why = inl (same, refl);
       is-place = omega arith;
       inside = omega arith;
       first = refl;
@@ -239,7 +262,7 @@ begun-halts (byte ∷ rest) place answer at bad =
     record {
       count = suc (s .count);
       wait = s .wait;
-      which = s .which;
+      why = inr (omega arith, all, s .why);
       is-place = let p = s .is-place in omega arith;
       inside = let i = s .inside in omega arith;
       first = all ∙ sym (take-at (decimal (s .wait)) (newline ∷ []) (suc (s .count)) (sym long));

@@ -1,11 +1,10 @@
 -- What was written reads back as the same transfer, with any text after it.
 -- Assumes nothing.
-use mathlib.Core.Bool.{true, false}
+use mathlib.Core.Bool.{false}
 use mathlib.Core.List.{List, [], _∷_, _++_, append-assoc}
 use mathlib.Core.Path.{_≡_, sym, ap, _∙_}
-use Prim.Native.Nat.{ℕ, _+_, _/_, _%_, _<_, _≤_}
+use Prim.Native.Nat.{ℕ, _+_, _<_, _≤_}
 use native.Mathlib.Omega.{arith}
-use borrow.Author.Tests.{le-ltb}
 use lib.Dec.{ltb}
 use lib.ListN.{length, drop}
 use Rattle.controller.specs.declared.answers.Answer.the-variants.{Done}
@@ -14,15 +13,15 @@ use Rattle.lines.specs.declared.writer.Written.{Written}
 use Rattle.lines.specs.Writing.{Writing, onto, writing, wanting, lineWriting}
 use Rattle.lines.specs.declared.reader.Field.the-variants.{Stands}
 use Rattle.lines.specs.declared.reader.Wait.the-variants.{Good}
-use Rattle.lines.specs.Digits.{newline, digit, worthOf, decimal, byteField, numberField}
+use Rattle.lines.specs.Digits.{newline, decimal, byteField, numberField}
 use Rattle.lines.specs.Line.{line, kindField, waitLimit}
-use Rattle.lines.specs.Reading.{textAt, kindRead, byteRead, restOf, waitOf, withWait, withByte, withKind, lineOf}
+use Rattle.lines.specs.Reading.{kindRead, byteRead, restOf, waitOf, withWait, withByte, withKind, lineOf}
 use Rattle.lines.specs.Theorems.{Sayable, lineRead, WrittenReadsBack, BufferReadsBack, LinesFit}
-use Rattle.lines.proofs.Laws.Digits.{either, worth-digit, field-length}
-use Rattle.lines.proofs.Laws.Kinds.{kind-below, kind-letter}
+use Rattle.lines.proofs.Laws.Digits.{either, field-length}
+use Rattle.lines.proofs.Laws.Kinds.{kind-below}
 use Rattle.lines.proofs.Laws.Lengths.{line-length, line-fits}
-use Rattle.lines.proofs.Laws.Steps.{digit-stands}
-use Rattle.lines.proofs.Laws.Waits.{begun, decimal-reads, wait-begun}
+use Rattle.lines.proofs.Laws.Parts.{kind-written, byte-written, wait-after}
+use Rattle.lines.proofs.Laws.Waits.{begun, decimal-reads}
 
 -- a wait is read to its newline
 wait-reads : (place wait : ℕ) (more : List ℕ) → wait ≤ waitLimit
@@ -37,34 +36,28 @@ module _ (kind byte wait : ℕ) (more : List ℕ) (can : Sayable kind byte wait)
   below : kind < 4
   below = kind-below kind byte (can .transfer)
 
-  kind-written : kindRead (line kind byte wait ++ more) ≡ Stands kind
-  unfolding kindRead line kindField byteField textAt
-  kind-written = let few = below in simp (kind-letter kind below, le-ltb 3 kind (omega arith))
+  -- the line in its parts, with what is after it
+  parts : line kind byte wait ++ more ≡ (kindField kind ++ byteField byte) ++ (numberField wait newline ++ more)
+  unfolding line
+  parts = simp append-assoc
 
-  high : worthOf (digit (byte / 16)) ≡ byte / 16
-  high = worth-digit (byte / 16) (let is = can .is-byte in omega arith)
+  kind-read : kindRead (line kind byte wait ++ more) ≡ Stands kind
+  kind-read = ap kindRead (parts ∙ simp append-assoc) ∙ kind-written kind (byteField byte ++ (numberField wait newline ++ more)) below
 
-  low : worthOf (digit (byte % 16)) ≡ byte % 16
-  low = worth-digit (byte % 16) (omega arith)
+  byte-read : byteRead kind (line kind byte wait ++ more) ≡ Stands byte
+  byte-read =
+      ap (byteRead kind) parts ∙ byte-written kind byte (numberField wait newline ++ more) (can .transfer) (can .is-byte)
 
-  byte-written : byteRead kind (line kind byte wait ++ more) ≡ Stands byte
-  unfolding byteRead line kindField byteField textAt
-  byte-written =
-      let is = can .is-byte in
-      let first = digit-stands kind byte (byte / 16) (can .transfer) (omega arith) (omega arith) in
-      let second = digit-stands kind byte (byte % 16) (can .transfer) (omega arith) (omega arith) in
-      simp (high, low, first, second) (ap Stands (omega arith))
-
-  wait-written : waitOf (line kind byte wait ++ more) ≡ Good wait (length (line kind byte wait))
-  unfolding line kindField byteField
-  wait-written =
-      wait-begun (line kind byte wait ++ more)
+  wait-read : waitOf (line kind byte wait ++ more) ≡ Good wait (length (line kind byte wait))
+  wait-read =
+      ap waitOf parts
+      ∙ wait-after kind byte (numberField wait newline ++ more)
       ∙ wait-reads 5 wait more (can .is-wait)
       ∙ ap (Good wait) (omega (arith, line-length kind byte wait))
 
   reads-back : lineOf (line kind byte wait ++ more) ≡ lineRead kind byte wait
   unfolding lineOf withKind withByte withWait
-  reads-back = simp (kind-written, byte-written, wait-written)
+  reads-back = simp (kind-read, byte-read, wait-read)
 
 pub written-reads-back : WrittenReadsBack
 written-reads-back kind byte wait more can = reads-back kind byte wait more can

@@ -1,13 +1,12 @@
--- A session's text is read as the transfers of its lines, and ends with the text, at a bad line, or after so many lines.
+-- A session's text is read as the transfers of its lines, to its end or after so many lines.
 -- Assumes nothing.
 use mathlib.Core.List.{List, [], _∷_, _++_, append-assoc, append-nil}
-use mathlib.Core.Logic.{_⊎_, inl, inr, ⊎-elim}
 use mathlib.Core.Path.{_≡_, sym, ap, _∙_}
 use Prim.Native.Nat.{ℕ, zero, suc, _<_, _≤_}
 use native.Mathlib.Omega.{arith}
 use lib.ListN.{length, drop, length-append, length-drop}
 use lib.Seq.{drop-append-seam}
-use Rattle.controller.specs.declared.answers.Answer.the-variants.{Done, BadLine}
+use Rattle.controller.specs.declared.answers.Answer.the-variants.{Done}
 use Rattle.controller.specs.Answers.{isDone}
 use Rattle.controller.specs.declared.sent.Sent.{Sent}
 use Rattle.lines.specs.declared.reader.Line.{Line}
@@ -18,34 +17,15 @@ use Rattle.lines.specs.Session.{Session, following, sentOf, readUpTo, sessionOf
 use Rattle.lines.proofs.Laws.Digits.{either}
 use Rattle.lines.proofs.Laws.Lengths.{line-length}
 use Rattle.lines.proofs.Theorems.Written.{written-reads-back}
-use Rattle.lines.proofs.Theorems.Read.{reader-answers}
 use Rattle.lines.proofs.Theorems.Session.{is-done, lines-read}
 use Rattle.lines.proofs.Laws.Session.{line-long, read-none, read-enough, read-more, read-bad, session-none, session-more, session-bad}
 use Rattle.player.specs.Report.{lastRow, rowsOf, start, report}
 use Rattle.player.specs.Standing.{leaving, noRefusal, standing}
-use Rattle.player.specs.Theorems.{ReportTells, SessionEnds, Reaches, LongReaches, MostStops}
+use Rattle.player.specs.Theorems.{ReportTells, Reaches, LongReaches, MostStops}
 
 pub report-tells : ReportTells
 unfolding report rowsOf lastRow
 report-tells ts can = simp (lines-read ts can, append-nil)
-
-ends-by : (k : ℕ) (text : List ℕ) → length text ≤ k → (sessionOf text .end ≡ Done) ⊎ (sessionOf text .end ≡ BadLine)
-ends-by zero [] enough = inl (ap (λ (s : Session). s .end) session-none)
-ends-by zero (byte ∷ rest) enough = absurd (omega arith)
-ends-by (suc k) [] enough = inl (ap (λ (s : Session). s .end) session-none)
-ends-by (suc k) (byte ∷ rest) enough =
-    let text = byte ∷ rest in
-    let some : 0 < length text = omega arith in
-    either (isDone (lineOf text .answer))
-    (λ good.
-    let long = line-long text good .0 in
-    rw (session-more text some good) (ends-by k (drop (lineOf text .length) text) (omega (arith, length-drop (lineOf text .length) text))))
-    (λ bad.
-    rw (session-bad text some bad)
-    (⊎-elim (λ d. inl (d .1)) (λ d. inr (ap (λ (l : Line). l .answer) (d .1))) (reader-answers text)))
-
-pub session-ends : SessionEnds
-session-ends text = ends-by (length text) text (omega arith)
 
 -- so many lines reach the end of a text: all of it is read
 pub read-reached : (most : ℕ) (text : List ℕ) → Reaches most text → readUpTo most text ≡ sessionOf text

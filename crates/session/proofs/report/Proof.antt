@@ -21,23 +21,11 @@ first-requires c κs = search needs
 print-requires : tie.Need-print-requires
 print-requires c κs = search needs
 
-ends-badly-requires : tie.Need-ends-badly-requires
-ends-badly-requires c κs = search needs
-
-slice-aggregate-tell-bad-line : tie.Need-slice-aggregate-tell-bad-line
-slice-aggregate-tell-bad-line c = search needs
-
-play-through-requires : tie.Need-play-through-requires
-play-through-requires c κs = search needs
-
-tell-bad-line-requires : tie.Need-tell-bad-line-requires
-tell-bad-line-requires c κs = search needs
+tell-end-requires : tie.Need-tell-end-requires
+tell-end-requires c κs = search needs
 
 returns : tie.Need-returns
 returns c = search needs
-
-returns-2 : tie.Need-returns-2
-returns-2 c = search needs
 
 pub report-spec : {M : Type 1} → statement M
 report-spec =
@@ -48,9 +36,5 @@ report-spec =
     slice-aggregate-first
     first-requires
     print-requires
-    ends-badly-requires
-    slice-aggregate-tell-bad-line
-    play-through-requires
-    tell-bad-line-requires
-    returns
-    returns-2)
+    tell-end-requires
+    returns)

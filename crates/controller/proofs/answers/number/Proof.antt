@@ -55,6 +55,15 @@ enum-told-16 c = search needs
 enum-told-17 : tie.Need-enum-told-17
 enum-told-17 c = search needs
 
+enum-told-18 : tie.Need-enum-told-18
+enum-told-18 c = search needs
+
+enum-told-19 : tie.Need-enum-told-19
+enum-told-19 c = search needs
+
+enum-told-20 : tie.Need-enum-told-20
+enum-told-20 c = search needs
+
 returns : tie.Need-returns
 returns c = simp (c .enum-told .given .1) (search needs)
 
@@ -106,6 +115,15 @@ returns-16 c = simp (c .enum-told16 .given .1) (search needs)
 returns-17 : tie.Need-returns-17
 returns-17 c = simp (c .enum-told17 .given .1) (search needs)
 
+returns-18 : tie.Need-returns-18
+returns-18 c = simp (c .enum-told18 .given .1) (search needs)
+
+returns-19 : tie.Need-returns-19
+returns-19 c = simp (c .enum-told19 .given .1) (search needs)
+
+returns-20 : tie.Need-returns-20
+returns-20 c = simp (c .enum-told20 .given .1) (search needs)
+
 pub number-spec : {M : Type 1} → statement M
 number-spec =
     tie.close
@@ -127,6 +145,9 @@ number-spec =
     enum-told-15
     enum-told-16
     enum-told-17
+    enum-told-18
+    enum-told-19
+    enum-told-20
     returns
     returns-2
     returns-3
@@ -143,4 +164,7 @@ number-spec =
     returns-14
     returns-15
     returns-16
-    returns-17)
+    returns-17
+    returns-18
+    returns-19
+    returns-20)

@@ -158,6 +158,33 @@ slice-aggregate-put-text-17 c = search needs
 put-text-requires-17 : tie.Need-put-text-requires-17
 put-text-requires-17 c κs = search needs
 
+enum-told-18 : tie.Need-enum-told-18
+enum-told-18 c = search needs
+
+slice-aggregate-put-text-18 : tie.Need-slice-aggregate-put-text-18
+slice-aggregate-put-text-18 c = search needs
+
+put-text-requires-18 : tie.Need-put-text-requires-18
+put-text-requires-18 c κs = search needs
+
+enum-told-19 : tie.Need-enum-told-19
+enum-told-19 c = search needs
+
+slice-aggregate-put-text-19 : tie.Need-slice-aggregate-put-text-19
+slice-aggregate-put-text-19 c = search needs
+
+put-text-requires-19 : tie.Need-put-text-requires-19
+put-text-requires-19 c κs = search needs
+
+enum-told-20 : tie.Need-enum-told-20
+enum-told-20 c = search needs
+
+slice-aggregate-put-text-20 : tie.Need-slice-aggregate-put-text-20
+slice-aggregate-put-text-20 c = search needs
+
+put-text-requires-20 : tie.Need-put-text-requires-20
+put-text-requires-20 c κs = search needs
+
 same-length : tie.Need-same-length
 same-length c = search needs
 
@@ -277,6 +304,27 @@ returns-17 : tie.Need-returns-17
 unfolding answerWords
 returns-17 c = simp (c .before .before .before .before .before .enum-told17 .given .1) (search needs)
 
+same-length-18 : tie.Need-same-length-18
+same-length-18 c = search needs
+
+returns-18 : tie.Need-returns-18
+unfolding answerWords
+returns-18 c = simp (c .before .before .before .before .before .enum-told18 .given .1) (search needs)
+
+same-length-19 : tie.Need-same-length-19
+same-length-19 c = search needs
+
+returns-19 : tie.Need-returns-19
+unfolding answerWords
+returns-19 c = simp (c .before .before .before .before .before .enum-told19 .given .1) (search needs)
+
+same-length-20 : tie.Need-same-length-20
+same-length-20 c = search needs
+
+returns-20 : tie.Need-returns-20
+unfolding answerWords
+returns-20 c = simp (c .before .before .before .before .before .enum-told20 .given .1) (search needs)
+
 pub put-answer-spec : {M : Type 1} → statement M
 put-answer-spec =
     tie.close
@@ -332,6 +380,15 @@ put-answer-spec =
     enum-told-17
     slice-aggregate-put-text-17
     put-text-requires-17
+    enum-told-18
+    slice-aggregate-put-text-18
+    put-text-requires-18
+    enum-told-19
+    slice-aggregate-put-text-19
+    put-text-requires-19
+    enum-told-20
+    slice-aggregate-put-text-20
+    put-text-requires-20
     same-length
     returns
     same-length-2
@@ -365,4 +422,10 @@ put-answer-spec =
     same-length-16
     returns-16
     same-length-17
-    returns-17)
+    returns-17
+    same-length-18
+    returns-18
+    same-length-19
+    returns-19
+    same-length-20
+    returns-20)
