@@ -1,7 +1,7 @@
 #!/bin/sh
-# Runs target/bin/session on every tests/session/NAME.in and compares what it writes with NAME.out; then on what no file
-# can show: long input, input in pieces, and standard input or output that is closed, full or cannot be read. What is told on
-# standard error is compared as well.
+# Runs target/bin/session on every tests/session/NAME.in and compares what it writes with NAME.out, and standard error with
+# NAME.errors where there is one; then on what no file can show: long input, input in pieces, and standard input or output that is
+# closed, full or cannot be read.
 # Prints 'session: N passed, M failed', and fails where M is not 0.
 set -u
 cd "$(dirname "$0")/.." || exit 1
@@ -10,38 +10,41 @@ suite=session
 . tests/common.sh
 is_built "$program" session
 
-# What is told of the bad line of a report, if it has one: its number, and what a line looks like.
-told_of() {
-    awk -F '\t' '$2 >= 16 && $2 <= 19 {
-        print "session: line " $1 " is not a session line. A line is I, D, S or R, a tab, two hex digits in capitals" \
-            " (00 for S and R), a tab, the wait in microseconds without leading zeros, up to 4294967295, and a newline:" \
-            " I<tab>38<tab>15000"
-    }' "$1"
-}
-
-# A session and the report that it must have: what is on standard output, and what is told of a bad line.
+# A session and the report that it must have; what is told on standard error is in the third file, where there is one.
+: > "$work/nothing"
 plays() {
     timeout 20 "$program" < "$1" > "$work/got" 2> "$work/errors"
     same "$1" "$work/got" "$2"
-    told_of "$2" > "$work/told"
-    same "$1: what is told" "$work/errors" "$work/told"
+    told=$work/nothing
+    [ ! -f "$3" ] || told=$3
+    same "$1: what is told" "$work/errors" "$told"
 }
 
+# A bad line has its words, with a hint where a typist needs one, in NAME.errors.
 for input in tests/session/*.in; do
-    plays "$input" "${input%.in}.out"
+    plays "$input" "${input%.in}.out" "${input%.in}.errors"
+done
+
+# Every number of a bad line is among them, and for each there are words.
+for number in 16 17 18 19; do
+    grep -lq "	$number	00	" tests/session/*.out
+    count "a session ends with $number" $?
+done
+for report in tests/session/*.out; do
+    ! grep -qE '	1[6-9]	00	' "$report" || [ -f "${report%.out}.errors" ]
+    count "$report: a bad line has words" $?
 done
 
 # Each example beside its report.
 for input in examples/*.session; do
-    plays "$input" "${input%.session}.report"
+    plays "$input" "${input%.session}.report" none
 done
 
 # A bad line in words, written out once.
 printf 'I\t38\t15000\nS\t00\t0\nD\t4g\t0\nS\t00\t0\n' > "$work/bad"
 printf 'no\tanswer\tbyte\tbusy\n1\t0\t00\t40\n2\t0\t80\t40\n3\t17\t00\t40\n' > "$work/bad_report"
-plays "$work/bad" "$work/bad_report"
-grep -q '^session: line 3 is not a session line\. A line is ' "$work/errors"
-count 'a bad line is told with its number' $?
+echo 'session: line 3, column 4: a byte is two hex digits in capitals, 00 for S and R, then a tab' > "$work/bad_told"
+plays "$work/bad" "$work/bad_report" "$work/bad_told"
 
 # 9,362 lines in 65,536 bytes: status reads at once after reset, and the last one after 100 microseconds.
 awk 'BEGIN { for (i = 1; i < 9362; i++) printf "S\t00\t0\n"; printf "S\t00\t100\n" }' > "$work/full"
@@ -52,7 +55,7 @@ awk 'BEGIN {
     for (i = 1; i < 9362; i++) print i "\t0\t80\t10000"
     print "9362\t0\t80\t9900"
 }' > "$work/full_report"
-plays "$work/full" "$work/full_report"
+plays "$work/full" "$work/full_report" none
 # A pipe is wanted here, and not the file.
 # shellcheck disable=SC2002
 cat "$work/full" | timeout 20 "$program" > "$work/got"
@@ -61,7 +64,7 @@ same '9,362 lines through a pipe' "$work/got" "$work/full_report"
 # 4,096 lines of 16 bytes, the longest, in 65,536 bytes.
 awk 'BEGIN { for (i = 1; i <= 4096; i++) printf "D\t41\t4294967295\n" }' > "$work/wide"
 awk 'BEGIN { print "no\tanswer\tbyte\tbusy"; for (i = 1; i <= 4096; i++) print i "\t0\t00\t40" }' > "$work/want"
-plays "$work/wide" "$work/want"
+plays "$work/wide" "$work/want" none
 
 # One byte more than 65,536, and far more, from a file and from a pipe: one line, and nothing else.
 echo 'too long' > "$work/want"
@@ -104,7 +107,7 @@ if [ -c /dev/full ]; then
     count 'a full disk' $?
     same 'a full disk: what is told' "$work/errors" "$work/told"
     timeout 20 "$program" < "$work/bad" > /dev/full 2> "$work/errors"
-    told_of "$work/bad_report" >> "$work/told"
+    cat "$work/bad_told" >> "$work/told"
     same 'a full disk and a bad line: what is told' "$work/errors" "$work/told"
 fi
 

@@ -77,15 +77,17 @@ fn place_for_words(form: Form) -> i32 {
 }
 
 // The bad line that ended a session, as the session program tells it: the header and its row, and words.
-fn tell_end(form: Form, number: u64, answer: u8, busy: u32) {
+fn tell_end(form: Form, standing: Standing, text: &[u8]) {
     let mut head = [0u8; 20];
     let mut row = [0u8; 42];
     let place = place_for_words(form);
+    let answer = standing.answer;
+    let line = standing.number;
     write_header(&mut head);
-    let written = write_row(number, answer, 0, busy, &mut row);
+    let written = write_row(line, number(answer), 0, standing.rec.busy, &mut row);
     io::write_all(place, &head);
     io::write_all(place, first(&row, written.length));
-    tell_bad_line(b"glass", number);
+    tell_bad_line(b"glass", line, text, standing.from);
 }
 
 // Draws the panel in the lit phase, and tells of refusals; a size that no glass has is told with what is allowed.
@@ -119,7 +121,7 @@ fn play_and_show(options: Options, text: &[u8]) {
     let answer = standing.answer;
     if number(answer) != 0 {
         let form = options.form;
-        tell_end(form, standing.number, number(answer), standing.rec.busy);
+        tell_end(form, standing, text);
     }
     show(options, standing);
 }

@@ -10,6 +10,7 @@ use Rattle.controller.specs.declared.answers.Answer.the-variants.{Done}
 use Rattle.controller.specs.declared.sent.Sent.{Sent}
 use Rattle.controller.specs.Answers.{isRefusal}
 use Rattle.controller.specs.Runs.{State, decidedOf, after, ran}
+use Rattle.lines.specs.Line.{linesOf}
 use Rattle.lines.specs.Session.{Session, readUpTo}
 use Rattle.player.specs.declared.tally.Tally.{Tally}
 use Rattle.player.specs.declared.through.Standing.{Standing}
@@ -39,11 +40,12 @@ countingAll tally line [] = tally
 countingAll tally line (answer ∷ answers) = countingAll (counting tally line answer) (line + 1) answers
 
 -- A bench that stands so.
-abbrev pub stood : Answer → ℕ → State → Tally → Standing
-stood answer number state tally =
+abbrev pub stood : Answer → ℕ → ℕ → State → Tally → Standing
+stood answer number from state tally =
     record {
       answer = answer;
       number = number;
+      from = from;
       rec = state .rec;
       memory = state .mem;
       refusals = tally .count;
@@ -51,13 +53,13 @@ stood answer number state tally =
       «first_answer» = tally .answer;
     }
 
--- How a session leaves this controller: how it ends, its lines counted from here on, the controller after its transfers, and
--- the refusals, those before it too.
-unfoldable pub leaving : ℕ → Tally → State → Session → Standing
-leaving number before state session =
-    stood (session .end) (number + length (session .sent)) (ran state (session .sent))
+-- How a session leaves this controller: how it ends, its lines and its bytes counted from here on, the controller after its
+-- transfers, and the refusals, those before it too.
+unfoldable pub leaving : ℕ → ℕ → Tally → State → Session → Standing
+leaving number from before state session =
+    stood (session .end) (number + length (session .sent)) (from + length (linesOf (session .sent))) (ran state (session .sent))
     (countingAll before number (answersTo state (session .sent)))
 
--- How at most so many lines of a text leave the bench: played from the start, and counted from 1.
+-- How at most so many lines of a text leave the bench: played from the start, the lines counted from 1 and the bytes from 0.
 unfoldable pub standing : List ℕ → ℕ → Standing
-standing text most = leaving 1 noRefusal start (readUpTo most text)
+standing text most = leaving 1 0 noRefusal start (readUpTo most text)

@@ -5,7 +5,7 @@ use mathlib.Core.List.{List, [], _∷_, _++_, map}
 use mathlib.Core.Logic.{_⊎_, _↔_}
 use mathlib.Core.Path.{_≡_}
 use Prim.Native.Nat.{ℕ, _+_, _*_, _^_, _<_, _≤_}
-use lib.ListN.{length}
+use lib.ListN.{length, drop}
 use Rattle.controller.specs.declared.answers.Answer.{Answer}
 use Rattle.controller.specs.declared.answers.Answer.the-variants.{Done}
 use Rattle.controller.specs.Answers.{isRefusal, numberOf, Row, Tells}
@@ -66,13 +66,15 @@ MostStops =
 
 -- Lines of transfers, and then something that no line starts: the bad line. Its row has its number, the reader's answer to it
 -- (`ReaderAnswers`), byte 00 and the busy as it stands, and ends the report; the bench stands as the transfers before it
--- leave it.
+-- leave it, and `from` is where the bad line begins in the text.
 pub record BadLineTold (ts : List Sent) (more : List ℕ) (most : ℕ) : Type 0 where
   pub row : report (linesOf ts ++ more)
       ≡ header
       ++ (rowsFrom 1 (heard start ts) ++ row (1 + length ts) (numberOf (lineOf more .answer)) 0x00 (ran start ts .rec .busy))
   pub stands : standing (linesOf ts ++ more) most
-      ≡ stood (lineOf more .answer) (1 + length ts) (ran start ts) (countingAll noRefusal 1 (answersTo start ts))
+      ≡ stood (lineOf more .answer) (1 + length ts) (length (linesOf ts)) (ran start ts)
+      (countingAll noRefusal 1 (answersTo start ts))
+  pub there : drop (standing (linesOf ts ++ more) most .from) (linesOf ts ++ more) ≡ more
 
 -- So with every bad line, wherever it stands, if so many lines reach it.
 abbrev pub BadLineEnds : Type 0

@@ -34,14 +34,14 @@ pub record Walked : Type 0 where
 -- A walk that ends at this place with this answer.
 abbrev pub endedAt : Answer → Place → List ℕ → List ℕ → Walked
 endedAt answer place mem out =
-    record { stands = stood answer (place .number) (stateAt place mem) (place .tally); at = place .at; out = out }
+    record { stands = stood answer (place .number) (place .from) (stateAt place mem) (place .tally); at = place .at; out = out }
 
 -- A session walked from this place on: its transfers run, its lines and refusals counted, and its rows written where they are
 -- wanted.
 unfoldable pub walked : Bool → Place → List ℕ → List ℕ → Session → Walked
 walked rows place mem out session =
     record {
-      stands = leaving (place .number) (place .tally) (stateAt place mem) session;
+      stands = leaving (place .number) (place .from) (place .tally) (stateAt place mem) session;
       at = place .at + length (bytesWanted rows (rowsOf (place .number) (stateAt place mem) session));
       out = sets out (place .at) (bytesWanted rows (rowsOf (place .number) (stateAt place mem) session));
     }

@@ -9,11 +9,12 @@ use controller::after_reset;
 use controller::reset;
 
 // How a text leaves the bench: done or the answer of its bad line, the number of the line that would be played next (the bad
-// one's), the record and the memory; how many transfers were refused, and the first one's line and answer, 0 and done where
-// none was.
+// one's) and the place in the text where it begins, the record and the memory; how many transfers were refused, and the first
+// one's line and answer, 0 and done where none was.
 pub struct Standing {
     pub answer: Answer,
     pub number: u64,
+    pub from: usize,
     pub rec: Record,
     pub memory: [u8; 144],
     pub refusals: u64,
@@ -43,6 +44,7 @@ pub fn play_through(text: &[u8], most: u64) -> Standing
     Standing {
         answer,
         number: ended.place.number,
+        from: ended.place.from,
         rec,
         memory,
         refusals: tally.count,

@@ -40,7 +40,7 @@ fn tell_end(text: &[u8]) {
     let standing = play_through(text, u64::MAX);
     let answer = standing.answer;
     if !is_done(answer) {
-        tell_bad_line(b"session", standing.number);
+        tell_bad_line(b"session", standing.number, text, standing.from);
     }
 }
 

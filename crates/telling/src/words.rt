@@ -2,14 +2,13 @@
 use libc::STDERR_FILENO;
 use lines::first;
 use lines::put_byte;
-use lines::put_number;
 use lines::put_text;
 
 // More than any of these takes.
 const OUTPUT: usize = 512;
 
 // Puts the name of a program before its words.
-fn put_name(out: &mut [u8], program: &[u8]) -> usize {
+pub fn put_name(out: &mut [u8], program: &[u8]) -> usize {
     let named = put_text(out, 0, program);
     put_text(out, named, b": ")
 }
@@ -45,23 +44,4 @@ pub fn tell_unwritten(program: &[u8]) {
         program,
         b"standard output could not be written. What stands there is not whole.",
     );
-}
-
-// A bad line by its number, and what a line looks like.
-pub fn tell_bad_line(program: &[u8], line: u64) {
-    let mut out = [0u8; OUTPUT];
-    let named = put_name(&mut out, program);
-    let called = put_text(&mut out, named, b"line ");
-    let numbered = put_number(&mut out, called, line);
-    let told = put_text(
-        &mut out,
-        numbered,
-        b" is not a session line. A line is I, D, S or R, a tab, two hex digits in capitals (00 for S and R), a tab, ",
-    );
-    let ended = put_text(
-        &mut out,
-        told,
-        b"the wait in microseconds without leading zeros, up to 4294967295, and a newline: I<tab>38<tab>15000\n",
-    );
-    io::write_all(STDERR_FILENO, first(&out, ended));
 }

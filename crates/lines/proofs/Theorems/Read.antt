@@ -121,6 +121,12 @@ read-is-sayable text done =
     let l = long text kind byte wait end is good in
     rw (reads text kind byte wait end is good) (sayable text kind byte wait end is good, l .0, l .1, l .2))
 
+-- its length is that of its line
+pub read-length : (text : List ℕ) → lineOf text .answer ≡ Done
+    → lineOf text .length ≡ length (line (lineOf text .kind) (lineOf text .byte) (lineOf text .wait))
+read-length text done =
+    read-by text done (λ kind byte wait end is good. rw (reads text kind byte wait end is good) (ends text kind byte wait end is good))
+
 pub read-writes-back : ReadWritesBack
 unfolding lineWriting wanting
 read-writes-back text out done enough =
@@ -162,11 +168,14 @@ pub number-by-place : NumberByPlace
 number-by-place text refused = refused-by text refused (λ answer place fault _ number. rw (fault .reads) number)
 
 -- no fault is past the sixteenth byte, and a line that is read has none
-pub offset-few : (text : List ℕ) → lineOf text .offset ≤ 15
+offset-few : (text : List ℕ) → lineOf text .offset ≤ 15
 offset-few text =
     line-cases text
     (λ kind byte wait end is good. rw (reads text kind byte wait end is good) (omega arith))
     (λ answer place fault _ _. rw (fault .reads) (fault .few))
+
+pub offset-told : (read : Line) (text : List ℕ) → read ≡ lineOf text → read .offset ≤ 15
+offset-told read text is = rw is (offset-few text)
 
 -- what completes a text completes its first bytes
 completes-less : (text : List ℕ) (a b : ℕ) → a ≤ b → Completes (take b text) → Completes (take a text)

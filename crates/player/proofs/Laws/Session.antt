@@ -7,7 +7,7 @@ use Prim.Native.Nat.{ℕ, suc, _+_, _<_}
 use native.Mathlib.Omega.{arith}
 use native.Mathlib.Nat.{add-zero}
 use lib.Dec.{eqb}
-use lib.ListN.{length, replicate}
+use lib.ListN.{length, replicate, length-append}
 use Rattle.controller.specs.declared.answers.Answer.{Answer}
 use Rattle.controller.specs.declared.answers.Answer.the-variants.{Done}
 use Rattle.controller.specs.Answers.{isDone, isRefusal, numberOf}
@@ -21,6 +21,7 @@ use Rattle.controller.specs.Cells.{onCell}
 use Rattle.controller.specs.Decision.{performed, blanked}
 use Rattle.controller.specs.Record.{sound, resetRecord, resetTime, halfSound}
 use Rattle.controller.proofs.Theorems.Sound.{transfer-keeps-sound}
+use Rattle.lines.specs.Line.{line, linesOf}
 use Rattle.lines.specs.Reading.{lineOf}
 use Rattle.lines.specs.ReportText.{header, row}
 use Rattle.lines.specs.Session.{Session, endedBy, following, sentOf}
@@ -55,19 +56,23 @@ rows-more number state t s =
     simp (next, append-assoc)
 
 -- no transfer leaves the controller as it is
-pub leaving-last : (number : ℕ) (before : Tally) (state : State) (answer : Answer)
-    → leaving number before state (endedBy answer) ≡ stood answer number state before
-unfolding leaving ran answersTo countingAll
-leaving-last number before state answer = simp add-zero
+pub leaving-last : (number from : ℕ) (before : Tally) (state : State) (answer : Answer)
+    → leaving number from before state (endedBy answer) ≡ stood answer number from state before
+unfolding leaving ran answersTo countingAll linesOf
+leaving-last number from before state answer = simp add-zero
 
--- one transfer more is one number more, and a refusal more where it is refused
-pub leaving-more : (number : ℕ) (before : Tally) (state : State) (t : Sent) (s : Session)
-    → leaving number before state (following t s)
-    ≡ leaving (number + 1) (counting before number (decidedOf state t .answer)) (after state (decidedOf state t)) s
-unfolding leaving ran answersTo countingAll
-leaving-more number before state t s =
+-- one transfer more is one number and its line's bytes more, and a refusal more where it is refused
+pub leaving-more : (number from : ℕ) (before : Tally) (state : State) (t : Sent) (s : Session)
+    → leaving number from before state (following t s)
+    ≡ leaving (number + 1) (from + length (line (t .kind) (t .byte) (t .wait))) (counting before number (decidedOf state t .answer))
+    (after state (decidedOf state t)) s
+unfolding leaving ran answersTo countingAll linesOf
+leaving-more number from before state t s =
     let next : number + suc (length (s .sent)) ≡ number + 1 + length (s .sent) = omega arith in
-    simp next
+    let own = line (t .kind) (t .byte) (t .wait) in
+    let further : from + length (own ++ linesOf (s .sent)) ≡ from + length own + length (linesOf (s .sent)) =
+    omega (arith, length-append own (linesOf (s .sent))) in
+    simp (next, further)
 
 -- there are fewer refusals than the next line's number
 pub counting-below : (tally : Tally) (line : ℕ) (answer : Answer) → tally .count < line → counting tally line answer .count < line + 1

@@ -17,16 +17,18 @@ use Rattle.controller.specs.declared.«record».Record.{Record}
 use Rattle.controller.specs.declared.sent.Sent.{Sent}
 use Rattle.controller.specs.Answers.{isDone, numberOf}
 use Rattle.controller.specs.Bus.{Performs}
-use Rattle.controller.proofs.Laws.Answers.{number-below}
+use Rattle.controller.proofs.Laws.Answers.{done-is, number-below}
 use Rattle.controller.specs.Runs.{State, decidedOf, after, toldOf}
 use Rattle.lines.specs.declared.reader.Line.{Line}
 use Rattle.lines.specs.declared.writer.Written.{Written}
+use Rattle.lines.specs.Line.{line as lineText}
 use Rattle.lines.specs.Reading.{lineOf}
 use Rattle.lines.specs.ReportText.{header, row, rowSize}
 use Rattle.lines.specs.Writing.{onto, writing, wanting, Writes}
 use Rattle.lines.specs.Session.{Session, endedBy, following, sentOf, readUpTo, sessionOf}
 use Rattle.lines.proofs.Laws.Lengths.{row-fits}
 use Rattle.lines.proofs.Laws.Buffer.{sets-append, sets-next, sets-onto}
+use Rattle.lines.proofs.Theorems.Read.{read-length}
 use Rattle.lines.proofs.Laws.Session.{line-at, more-text, done-at, line-inside, read-none, read-enough, read-more, read-bad, read-all}
 use Rattle.player.specs.declared.walk.Ended.{Ended}
 use Rattle.player.specs.declared.walk.Place.{Place}
@@ -93,7 +95,7 @@ module _ (rows : Bool) (place : Place) (mem out : List ℕ) where
   walked-done : walked rows place mem out (endedBy Done) ≡ endedAt Done place mem out
   unfolding walked
   walked-done =
-      simp (leaving-last (place .number) (place .tally) (stateAt place mem) Done, rows-none (place .number) (stateAt place mem), wanted-none rows, add-zero)
+      simp (leaving-last (place .number) (place .from) (place .tally) (stateAt place mem) Done, rows-none (place .number) (stateAt place mem), wanted-none rows, add-zero)
 
   -- at a bad line
   walked-bad : (answer : Answer) {at : ℕ} {out′ : List ℕ} → isDone answer ≡ false
@@ -101,16 +103,17 @@ module _ (rows : Bool) (place : Place) (mem out : List ℕ) where
       → endedAt answer (record { from = place .from; at = at; number = place .number; rec = place .rec; tally = place .tally }) mem out′ ≡ walked rows place mem out (endedBy answer)
   unfolding walked
   walked-bad answer bad tells =
-      simp (leaving-last (place .number) (place .tally) (stateAt place mem) answer, rows-last (place .number) (stateAt place mem) answer bad, tells .after, tells .buffer)
+      simp (leaving-last (place .number) (place .from) (place .tally) (stateAt place mem) answer, rows-last (place .number) (stateAt place mem) answer bad, tells .after, tells .buffer)
 
   -- one transfer more
   walked-more : (t : Sent) (s : Session) (next : Place) {mem′ out′ : List ℕ} → next .number ≡ place .number + 1
+      → next .from ≡ place .from + length (lineText (t .kind) (t .byte) (t .wait))
       → stateAt next mem′ ≡ after (stateAt place mem) (decidedOf (stateAt place mem) t)
       → next .tally ≡ counting (place .tally) (place .number) (decidedOf (stateAt place mem) t .answer)
       → RowTold rows (rowAt (place .number) (toldOf (decidedOf (stateAt place mem) t))) (place .at) out (next .at) out′
       → walked rows next mem′ out′ s ≡ walked rows place mem out (following t s)
   unfolding walked
-  walked-more t s next {mem′} {out′} counted runs refused tells =
+  walked-more t s next {mem′} {out′} counted further runs refused tells =
       let state = stateAt place mem in
       let own = bytesWanted rows (rowAt (place .number) (toldOf (decidedOf state t))) in
       let rest = rowsOf (place .number + 1) (after state (decidedOf state t)) s in
@@ -118,7 +121,7 @@ module _ (rows : Bool) (place : Place) (mem out : List ℕ) where
       ap (bytesWanted rows) (rows-more (place .number) state t s) ∙ wanted-more rows _ rest in
       let long : place .at + length own + length (bytesWanted rows rest) ≡ place .at + length (own ++ bytesWanted rows rest) =
       omega (arith, length-append own (bytesWanted rows rest)) in
-      simp (all, counted, runs, refused, tells .after, tells .buffer, leaving-more (place .number) (place .tally) state t s, sets-append, long)
+      simp (all, counted, further, runs, refused, tells .after, tells .buffer, leaving-more (place .number) (place .from) (place .tally) state t s, sets-append, long)
 
 -- room for the rest after a line of at least 7 bytes, whose row took at most 42
 room-after : (rows : Bool) (at next text line : ℕ) {out : ℕ} → 7 ≤ line → line ≤ text → at + room rows text ≤ out → next ≤ at + room rows 0
@@ -141,6 +144,10 @@ module _ {rows : Bool} {text : List ℕ} {place : Place} {out : List ℕ} (fits 
 
   own : {b : Bool} → isDone (line .answer) ≡ b → isDone (lineOf (drop (place .from) text) .answer) ≡ b
   own is = done-at text (place .from) some read is
+
+  -- its length is that of its line
+  own-length : isDone (line .answer) ≡ true → line .length ≡ length (lineText (line .kind) (line .byte) (line .wait))
+  own-length good = rw is-line (read-length (drop (place .from) text) (done-is (lineOf (drop (place .from) text) .answer) (own good)))
 
   -- a bad line ends the walk
   pub line-stops : {mem : List ℕ} {at : ℕ} {out′ : List ℕ} → isDone (line .answer) ≡ false
@@ -182,7 +189,7 @@ module _ {rows : Bool} {text : List ℕ} {place : Place} {out : List ℕ} (fits 
           };
           left = λ k. ap (λ (t : List ℕ). walked rows next mem′ out′ (readUpTo k t)) (sym (drop-drop (line .length) (place .from) text))
               ∙ walked-more rows place mem out (sentOf line) (readUpTo k (drop (line .length) (drop (place .from) text))) next refl
-              (simp (performs .told, performs .memory)) (rw (performs .told) at refused) (rw (performs .told) at tells)
+              (ap (λ (n : ℕ). place .from + n) (own-length good)) (simp (performs .told, performs .memory)) (rw (performs .told) at refused) (rw (performs .told) at tells)
               ∙ ap (λ (l : Line). walked rows place mem out (following (sentOf l) (readUpTo k (drop (l .length) (drop (place .from) text))))) is-line
               ∙ ap (walked rows place mem out) (sym (read-more k (drop (place .from) text) more (own good)));
         };

@@ -4,7 +4,9 @@ use mathlib.Core.Bool.{not}
 use mathlib.Core.List.{_++_}
 use mathlib.Core.Logic.{inl, inr}
 use mathlib.Core.Path.{ap}
+use native.Mathlib.Nat.{zero-add}
 use native.Mathlib.Omega.{arith}
+use lib.Seq.{drop-append-seam}
 use lib.ListN.{length}
 use Rattle.controller.proofs.Laws.Answers.{done-is, tells-as}
 use Rattle.controller.specs.Answers.{isDone, numberOf}
@@ -24,7 +26,11 @@ bad-line-ends ts more most can some none few =
     let read = bad-ends ts more can some none in
     let other = fault-not-good (lineOf more .answer) (refuses more none) in
     let whole = read-reached most (linesOf ts ++ more) (omega (arith, ap (λ (s : Session). length (s .sent)) read)) in
-    record { row = simp (read, other); stands = simp (whole, read) }
+    record {
+      row = simp (read, other);
+      stands = simp (whole, read, zero-add);
+      there = simp (whole, read, zero-add) (drop-append-seam (linesOf ts) more);
+    }
 
 pub session-ends : SessionEnds
 session-ends text =

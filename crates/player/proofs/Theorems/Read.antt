@@ -79,4 +79,4 @@ read-first (t ∷ ts) more can =
 pub most-stops : MostStops
 unfolding standing
 most-stops ts more most can reaches =
-    ap (leaving 1 noRefusal start) (read-first ts more can ∙ sym (lines-read ts can) ∙ sym (read-reached most (linesOf ts) reaches))
+    ap (leaving 1 0 noRefusal start) (read-first ts more can ∙ sym (lines-read ts can) ∙ sym (read-reached most (linesOf ts) reaches))
