@@ -4,11 +4,10 @@ use mathlib.Core.Path.{_≡_, refl, ap}
 use Prim.Native.Nat.{ℕ}
 use native.Mathlib.Omega.{arith}
 use lib.ListN.{length}
-use Rattle.controller.specs.Bus.{badTransfer}
 use Rattle.lines.specs.Digits.{decimal, spelled, digit, worthOf, numberField, byteField}
 use Rattle.lines.specs.Line.{letterOf, kindField, line, linesOf}
 use Rattle.lines.specs.Line as text
-use Rattle.lines.specs.Reading.{textAt, kindStands, byteStands, mayFollow, restOf, waitOf, withWait, lineFrom, lineOf}
+use Rattle.lines.specs.Reading.{textAt, kindRead, digitStands, byteRead, mayFollow, restOf, waitOf, withWait, withByte, withKind, lineOf}
 use Rattle.lines.specs.Session.{readUpTo, sessionOf}
 use Rattle.lines.specs.Writing.{Writing, wanting}
 use Rattle.captures.specs.Words.{isBlank, joined, words, isPlain, same, placeIn}
@@ -29,7 +28,7 @@ unfolding decimal spelled digit numberField byteField letterOf kindField line li
 some-made = refl
 
 pub line-captured : LineCaptured
-unfolding text.kindOf textAt kindStands byteStands worthOf mayFollow restOf waitOf withWait lineFrom lineOf badTransfer readUpTo sessionOf decimal spelled digit madeStamp madeChange madeLines madePulse madePulses captureOf captureText
+unfolding text.kindOf textAt kindRead digitStands byteRead worthOf mayFollow restOf waitOf withWait withByte withKind lineOf readUpTo sessionOf decimal spelled digit madeStamp madeChange madeLines madePulse madePulses captureOf captureText
 line-captured = refl
 
 pub close-is-lost : CloseIsLost
