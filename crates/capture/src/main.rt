@@ -22,10 +22,11 @@ use telling::tell_unwritten;
 // What the capture of the longest session wants: nine bytes for each byte of it, and 291 more.
 const OUTPUT: usize = 9 * LIMIT + 291;
 
-// What is seen of a session's lines: the number of the next one, at the end that of a bad line; how many but the first have a
-// wait below 2, and the number and the wait of the first of those.
+// What is seen of a session's lines: the number of the next one, at the end that of a bad line, and where that begins; how many
+// but the first have a wait below 2, and the number and the wait of the first of those.
 pub struct Seen {
     pub number: u64,
+    pub from: usize,
     pub close: u64,
     pub first: u64,
     pub wait: u32,
@@ -56,6 +57,7 @@ fn counted(seen: Seen, wait: u32) -> Seen
 fn look(text: &[u8]) -> Seen {
     let mut seen = Seen {
         number: 1,
+        from: 0,
         close: 0,
         first: 0,
         wait: 0,
@@ -65,6 +67,7 @@ fn look(text: &[u8]) -> Seen {
         let line = read_line(&text[from..]);
         let answer = line.answer;
         if !is_done(answer) {
+            seen.from = from;
             return seen;
         }
         seen = counted(seen, line.wait);
@@ -106,7 +109,7 @@ fn show(text: &[u8])
     let written = write_capture(text, &mut out);
     let answer = written.answer;
     if !is_done(answer) {
-        tell_bad_line(b"capture", seen.number);
+        tell_bad_line(b"capture", seen.number, text, seen.from);
         return;
     }
     if !io::write_all(STDOUT_FILENO, first(&out, written.length)) {
