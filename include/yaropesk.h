@@ -6,9 +6,10 @@
  * times a value: a byte, a count or a length. YAROPESK_ANSWER and YAROPESK_VALUE take it apart. Where several answers would
  * fit, the first of them is given, in the order that stands at the call.
  *
- * Refusals. The answers 0, 5, 7 and 8 are no refusals; all others are. A refused call returns the value 0 and leaves all
- * that it was lent as found, but for a transfer answered 4 or 6, which changes the record: after 4 busy is less by the
- * wait; after 6 the wait is counted and the half is gone. Output bytes past those written stay as they were. */
+ * Refusals. The answers 0, 5, 7 and 8 are no refusals; all others are. A refused call returns the value 0, but for a line
+ * that is not read, of which YAROPESK_OFFSET tells where it is at fault. It leaves all that it was lent as found, but for a
+ * transfer answered 4 or 6, which changes the record: after 4 busy is less by the wait; after 6 the wait is counted and the
+ * half is gone. Output bytes past those written stay as they were. */
 #ifndef YAROPESK_H
 #define YAROPESK_H
 
@@ -17,6 +18,7 @@
 
 #define YAROPESK_ANSWER(returned) ((returned) % 256)
 #define YAROPESK_VALUE(returned) ((returned) / 256)
+#define YAROPESK_OFFSET(returned) ((returned) / 65536) /* of yaropesk_read_line alone */
 
 /* Answers. */
 #define YAROPESK_DONE 0            /* no refusal */
@@ -160,8 +162,9 @@ uint32_t yaropesk_plan(const uint8_t *wish, size_t wish_length, const uint8_t *m
 uint32_t yaropesk_write_line(uint8_t kind, uint8_t byte, uint32_t wait, uint8_t *out, size_t out_length);
 
 /* The session line at the start of a text, as a transfer of six bytes into an output of at least six.
- * Answers: 16, 17, 18 or 19, by the first byte that cannot stand, 11, or 0. The value is the line's length, so that the
- * next line begins there. */
+ * Answers: 16, 17, 18 or 19, by the field of the first byte from the left that cannot stand, 11, or 0. The value is the
+ * line's length, so that the next line begins there. After 16 to 19 the offset is that of this byte, or the text's length
+ * where the text ends early; it is at most 15, and 0 after every other answer. */
 uint32_t yaropesk_read_line(const uint8_t *text, size_t text_length, uint8_t *out, size_t out_length);
 
 /* The session of a capture from a logic pod, as session lines, into an output at least as long as their text. An output

@@ -114,17 +114,27 @@ static void try_lines(void) {
         check("letter", i, out[0] == (uint8_t)letters[i]);
     }
     answered("kind", yaropesk_write_line(YAROPESK_DATA_READ + 1, 0, 0, out, YAROPESK_LINE_SIZE), YAROPESK_BAD_TRANSFER);
-    for (size_t length = 0; length < sizeof text - 1; length++) {
+    /* A line that is cut, or has a byte that cannot stand, after so many bytes: its field, and where. */
+    for (unsigned at = 0; at < sizeof text - 1; at++) {
         static const unsigned field[] = {YAROPESK_BAD_KIND, YAROPESK_BAD_KIND, YAROPESK_BAD_BYTE, YAROPESK_BAD_BYTE,
                                          YAROPESK_BAD_BYTE, YAROPESK_BAD_WAIT};
-        answered("cut line", yaropesk_read_line(text, length, out, YAROPESK_TRANSFER_SIZE),
-                 length < 6 ? field[length] : YAROPESK_NO_NEWLINE);
+        unsigned answer = at < 6 ? field[at] : YAROPESK_NO_NEWLINE;
+        uint8_t bent[sizeof text];
+        memcpy(bent, text, sizeof text);
+        bent[at] = 'x';
+        memset(out, 0xA5, sizeof out);
+        check("cut line", at, yaropesk_read_line(text, at, out, YAROPESK_TRANSFER_SIZE) == answer + 65536 * at);
+        uint32_t refused = yaropesk_read_line(bent, sizeof text - 1, out, YAROPESK_TRANSFER_SIZE);
+        answered("bent line", refused, answer);
+        check("offset of a fault", at, YAROPESK_OFFSET(refused) == at);
+        check("output of a bent line", at, out[0] == 0xA5 && out[YAROPESK_TRANSFER_SIZE - 1] == 0xA5);
     }
     answered("short transfer", yaropesk_read_line(text, sizeof text - 1, out, YAROPESK_TRANSFER_SIZE - 1),
              YAROPESK_OUTPUT_SHORT);
     uint32_t read = yaropesk_read_line(text, sizeof text - 1, out, YAROPESK_TRANSFER_SIZE);
     answered("line", read, YAROPESK_DONE);
     check("length of a line", 0, YAROPESK_VALUE(read) == sizeof text - 1);
+    check("no offset of a line", 0, YAROPESK_OFFSET(read) == 0);
     check("kind of a transfer", 0, out[YAROPESK_TRANSFER_KIND] == YAROPESK_DATA_WRITE);
     check("byte of a transfer", 0, out[YAROPESK_TRANSFER_BYTE] == 0x41);
     check("wait of a transfer", 0, memcmp(out + YAROPESK_TRANSFER_WAIT, "\x78\x56\x34\x12", 4) == 0);

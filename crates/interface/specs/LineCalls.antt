@@ -1,4 +1,5 @@
--- Session lines for C: the answer's number, 256 times the line's length, and every byte of the buffer.
+-- Session lines for C: the answer's number, 256 times the line's length, 65,536 times the offset of a line's fault, and every
+-- byte of the buffer.
 -- Assumes nothing.
 use mathlib.Core.Bool.{cond, not}
 use mathlib.Core.List.{List}
@@ -25,12 +26,16 @@ writeCall kind byte wait out = fillingOf (lineWriting kind byte wait out) out
 abbrev pub sixOf : Line → List ℕ
 sixOf line = sixBytes (record { kind = line .kind; byte = line .byte; wait = line .wait })
 
+-- What is told of a line: the answer's number, 256 times its length, 0 where it is refused, and 65,536 times the offset of its
+-- fault, 0 where it is read.
+abbrev pub lineTold : Line → ℕ
+lineTold line = numberOf (line .answer) + 256 * line .length + 65536 * line .offset
+
 -- A line that was read, the refusals in their order: the reader's own, then 11. Six bytes are wanted.
 unfoldable pub stored : Line → List ℕ → Filling
 stored line out =
-    cond (not (isDone (line .answer))) (declined (line .answer) out)
-    (cond (ltb (length out) 6) (declined OutputShort out)
-    (record { returned = numberOf (line .answer) + 256 * line .length; buffer = onto (sixOf line) out }))
+    cond (not (isDone (line .answer))) (record { returned = lineTold line; buffer = out })
+    (cond (ltb (length out) 6) (declined OutputShort out) (record { returned = lineTold line; buffer = onto (sixOf line) out }))
 
 -- What `yaropesk_read_line` comes to.
 abbrev pub readCall : List ℕ → List ℕ → Filling

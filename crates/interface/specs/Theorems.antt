@@ -4,7 +4,7 @@
 use mathlib.Core.Bool.{true, cond, _||_}
 use mathlib.Core.List.{List, [], _∷_}
 use mathlib.Core.Path.{_≡_}
-use Prim.Native.Nat.{ℕ, _%_, _<_}
+use Prim.Native.Nat.{ℕ, _+_, _*_, _%_, _<_}
 use lib.Dec.{eqb}
 use lib.ListN.{length}
 use Rattle.controller.specs.declared.answers.Answer.{Answer}
@@ -16,6 +16,7 @@ use Rattle.controller.specs.Theorems.{left}
 use Rattle.captures.specs.Theorems.{importRows}
 use Rattle.dots.specs.Theorems.{pictureRows}
 use Rattle.lines.specs.Faults.{readerRows}
+use Rattle.lines.specs.Reading.{lineOf}
 use Rattle.lines.specs.Theorems.{writerRows}
 use Rattle.planner.specs.declared.wish.Wish.{Wish}
 use Rattle.planner.specs.Theorems.{NotWished, planRows}
@@ -47,7 +48,8 @@ WishReadsBack = (wish : Wish) → wishIn (wishBytes wish) ≡ ReadWish.Is wish
 abbrev pub WishWritesBack : Type 0
 WishWritesBack = (bytes : List ℕ) (wish : Wish) → wishIn bytes ≡ ReadWish.Is wish → wishBytes wish ≡ bytes
 
--- The answer's number in what a call returns. Above it stands 256 times a byte, a count or a length.
+-- The answer's number in what a call returns. Above it stands 256 times a byte, a count or a length, and for a line 65,536 times
+-- the offset of its fault.
 abbrev pub answerIn : ℕ → ℕ
 answerIn returned = returned % 256
 
@@ -59,6 +61,11 @@ pub record Refuses (answer : Answer) (returned : ℕ) : Type 0 where
 -- A refused call that fills a buffer returns the bare number, and leaves the buffer as found.
 abbrev pub KeepsBuffer : Filling → List ℕ → Type 0
 KeepsBuffer call out = (answer : Answer) → Refuses answer (call .returned) → call ≡ declined answer out
+
+-- A refused call for a line returns the number and 65,536 times this offset, and leaves the buffer as found.
+abbrev pub KeepsBufferAt : ℕ → Filling → List ℕ → Type 0
+KeepsBufferAt offset call out =
+    (answer : Answer) → Refuses answer (call .returned) → call ≡ record { returned = numberOf answer + 65536 * offset; buffer = out }
 
 -- A refused call over a record and a memory returns the bare number, and leaves the memory as found and these bytes of the
 -- record.
@@ -72,7 +79,7 @@ bytesLeft Broken bytes wait answer = bytes
 bytesLeft (Is rec) bytes wait answer =
     cond (eqb (numberOf answer) 4 || eqb (numberOf answer) 6) (recordBytes (left answer wait rec)) bytes
 
--- What a refusal leaves, call by call.
+-- What a refusal leaves, call by call. The offset of a line that is read is 0, so that 11 is told bare.
 pub record CallRefusals : Type 0 where
   pub reset : (bytes mem : List ℕ) → KeepsMemory (resetCall bytes mem) mem (λ _. bytes)
   pub transfer : (bytes mem : List ℕ) (kind byte wait : ℕ)
@@ -81,7 +88,7 @@ pub record CallRefusals : Type 0 where
       → KeepsBuffer (pictureCall bytes mem columns lines lit out) out
   pub plan : (wish marks values out : List ℕ) → KeepsBuffer (planCall wish marks values out) out
   pub write-line : (kind byte wait : ℕ) (out : List ℕ) → KeepsBuffer (writeCall kind byte wait out) out
-  pub read-line : (text out : List ℕ) → KeepsBuffer (readCall text out) out
+  pub read-line : (text out : List ℕ) → KeepsBufferAt (lineOf text .offset) (readCall text out) out
   pub import : (capture out : List ℕ) → KeepsBuffer (importCall capture out) out
 
 -- These are the 24 bytes of this record, which is sound.

@@ -7,6 +7,7 @@ ghost use Rattle.interface.specs.Filling.{Fills};
 ghost use Rattle.interface.specs.LineCalls.{sixOf, stored};
 ghost use Rattle.interface.specs.Promises.{YaropeskReadLinePromise, YaropeskWriteLinePromise};
 use crate::told::counted;
+use crate::told::placed;
 use crate::told::refused;
 use controller::Answer;
 use controller::Sent;
@@ -39,23 +40,23 @@ fn put_transfer(line: Line, out: &mut [u8])
     bytes::copy(&six, out);
 }
 
-// The transfer of a line that was read.
+// The transfer of a line that was read, or the fault of one that was not.
 fn store_line(line: Line, out: &mut [u8]) -> u32
-    requires { ⌜ line .length ≤ 468 ⌝ }
+    requires { ⌜ (line .length ≤ 468) × (line .offset ≤ 15) ⌝ }
     ensures { λ r. ⌜ Fills (stored line (now (out .entry))) r (now (out .exit)) ⌝ }
 {
     let answer = line.answer;
     if !is_done(answer) {
-        return refused(answer);
+        return placed(answer, line.length, line.offset);
     }
     if out.len() < 6 {
         return refused(Answer::OutputShort);
     }
     put_transfer(line, out);
-    counted(answer, line.length)
+    placed(answer, line.length, line.offset)
 }
 
-// The line at the start of a text, as six bytes.
+// The line at the start of a text, as six bytes, or the offset of its fault.
 #[no_mangle]
 pub extern "C" fn yaropesk_read_line(text: &[u8], out: &mut [u8]) -> u32
     ensures { λ r. ⌜ YaropeskReadLinePromise (now (text .entry)) (now (out .entry)) r (now (out .exit)) ⌝ }

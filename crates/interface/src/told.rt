@@ -25,7 +25,15 @@ pub fn counted(answer: Answer, count: usize) -> u32
     number(answer) as u32 + 256 * count as u32
 }
 
-// The same in 64 bits, where a length below 2^56 has room.
+// With 65,536 times an offset in a line beside.
+pub fn placed(answer: Answer, length: usize, offset: usize) -> u32
+    requires { ⌜ (length ≤ 468) × (offset ≤ 15) ⌝ }
+    ensures { λ r. ⌜ r ≡ numberOf answer + 256 * length + 65536 * offset ⌝ }
+{
+    counted(answer, length) + 65_536 * offset as u32
+}
+
+// A count in 64 bits, where a length below 2^56 has room.
 pub fn counted_far(answer: Answer, count: usize) -> u64
     ensures { λ r. ⌜ r ≡ numberOf answer + 256 * (count % 72057594037927936) ⌝ }
 {

@@ -17,7 +17,7 @@ use Rattle.controller.specs.Bus.{decided, resetDecided, whole}
 use Rattle.controller.specs.Answers.{isDone, numberOf, Given, Row, Tells}
 use Rattle.controller.specs.Record.{sound}
 use Rattle.controller.specs.Rows.{Breaks, resetRows, transferRows}
-use Rattle.controller.proofs.Laws.Answers.{none-applies, number-below, row-applies, tells-as}
+use Rattle.controller.proofs.Laws.Answers.{none-applies, row-applies, tells-as}
 use Rattle.controller.proofs.Laws.Choice.{cond-map}
 use Rattle.controller.proofs.Laws.Rows.{sound-tests, whole-tests}
 use Rattle.controller.proofs.Laws.Tests.{Tests, fails-eq, tests-as, tests-fails, tests-lt}
@@ -49,7 +49,7 @@ use Rattle.interface.specs.declared.wish_bytes.ReadWish.the-variants as 
 use Rattle.interface.specs.CaptureCalls.{importCall}
 use Rattle.interface.specs.ControllerCalls.{Call, resetCall, transferCall, transferFrom}
 use Rattle.interface.specs.Filling.{Filling}
-use Rattle.interface.specs.LineCalls.{stored, writeCall}
+use Rattle.interface.specs.LineCalls.{lineTold, stored, writeCall}
 use Rattle.interface.specs.PictureCalls.{pictureFrom, sizeOf}
 use Rattle.interface.specs.PlanCalls.{planFrom, wishless}
 use Rattle.interface.specs.RecordBytes.{recordFrom, isRecordLong, recordIn}
@@ -181,17 +181,24 @@ write-tells kind byte wait out =
     let w = lineWriting kind byte wait out in
     tells (w .answer) (length (w .text)) _ _ refl (writer-answers kind byte wait out)
 
+-- what is told of a line has its answer
+line-answer : (line : Line) → answerIn (lineTold line) ≡ numberOf (line .answer)
+line-answer line =
+    let same : lineTold line ≡ numberOf (line .answer) + 256 * (line .length + 256 * line .offset) = omega arith in
+    ap answerIn same ∙ answer-in (line .answer) (line .length + 256 * line .offset)
+
 -- a line that was read
 stored-number : (line : Line) (out : List ℕ) → line .answer ≡ Done → answerIn (stored line out .returned) ≡ cond (ltb (length out) 6) 11 0
 unfolding stored
 stored-number line out done =
-    rw done
-    (cond-map (λ (call : Filling). answerIn (call .returned)) (ltb (length out) 6) _ _ 11 0 (λ _. refl) (λ _. answer-in Done (line .length)))
+    simp (ap isDone done)
+    (cond-map (λ (call : Filling). answerIn (call .returned)) (ltb (length out) 6) _ _ 11 0 (λ _. refl)
+    (λ _. line-answer line ∙ ap numberOf done))
 
 -- and one that was not
 bad-number : (line : Line) (out : List ℕ) → isDone (line .answer) ≡ false → answerIn (stored line out .returned) ≡ numberOf (line .answer)
 unfolding stored
-bad-number line out bad = simp bad (let below = number-below (line .answer) in omega arith)
+bad-number line out bad = simp bad (line-answer line)
 
 read-tells : (text out : List ℕ) → Tells (answerIn (stored (lineOf text) out .returned)) (readRows text out)
 unfolding readRows

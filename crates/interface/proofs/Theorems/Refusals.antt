@@ -3,6 +3,7 @@
 -- Assumes nothing.
 use mathlib.Core.Bool.{Bool, true, false, cond, not, _||_, false≢true}
 use mathlib.Core.List.{List, []}
+use mathlib.Core.Logic.{⊎-elim}
 use mathlib.Core.Path.{_≡_, refl, sym, ap, _∙_}
 use Prim.Native.Nat.{ℕ, _+_, _*_, _%_}
 use native.Mathlib.Omega.{arith}
@@ -28,7 +29,10 @@ use Rattle.dots.specs.Picture.{answered}
 use Rattle.lines.specs.Reading.{lineOf}
 use Rattle.lines.specs.declared.reader.Line.{Line}
 use Rattle.lines.specs.Writing.{Writing, lineWriting, onto}
+use Rattle.lines.proofs.Laws.Digits.{either}
 use Rattle.lines.proofs.Laws.Nothing.{WritesNothing, writer-nothing}
+use Rattle.lines.proofs.Theorems.Read.{read-or-refused}
+use Rattle.lines.proofs.Theorems.Session.{fault-not-good}
 use Rattle.planner.specs.Call.{replyTo}
 use Rattle.planner.proofs.Theorems.Wish.{plan-refusals}
 use Rattle.interface.specs.declared.record_bytes.ReadRecord.{ReadRecord}
@@ -42,7 +46,7 @@ use Rattle.interface.specs.LineCalls.{stored, writeCall}
 use Rattle.interface.specs.PictureCalls.{pictureFrom, sizeOf}
 use Rattle.interface.specs.PlanCalls.{planFrom, wishless}
 use Rattle.interface.specs.RecordBytes.{recordBytes, recordFrom, isRecordLong, recordIn}
-use Rattle.interface.specs.Theorems.{CallRefusals, KeepsBuffer, KeepsMemory, Refuses, answerIn, bytesLeft}
+use Rattle.interface.specs.Theorems.{CallRefusals, KeepsBuffer, KeepsBufferAt, KeepsMemory, Refuses, answerIn, bytesLeft}
 use Rattle.interface.specs.WishBytes.{wishIn}
 use Rattle.interface.proofs.Laws.Calls.{reset-done}
 use Rattle.interface.proofs.Laws.Read.{read-own}
@@ -106,14 +110,33 @@ import-kept : (capture out : List ℕ) → KeepsBuffer (importCall capture out) 
 import-kept capture out =
     text-kept (importing capture out) out (λ t. length t % 72057594037927936) refl (import-nothing capture out)
 
-read-kept : (line : Line) (out : List ℕ) → KeepsBuffer (stored line out) out
-unfolding stored
-read-kept line out =
-    let P : Filling → Type 0 = λ call. KeepsBuffer call out in
-    cond-elim P (not (isDone (line .answer))) _ _ (λ _. buffer-kept _ out (line .answer) 0 (omega arith) (λ _. (refl, refl)))
-    (λ good. cond-elim P (ltb (length out) 6) _ _ (λ _. buffer-kept _ out OutputShort 0 (omega arith) (λ _. (refl, refl)))
-    (λ _. buffer-kept _ out (line .answer) (line .length) refl
-    (λ r. absurd (not-done (line .answer) r (eqb-true (numberOf (line .answer)) 0 (not-false _ good))))))
+-- a line's answer is told beside its length and its offset, and only a refusal has an offset
+module _ (text out : List ℕ) where
+  line-kept : (told answer : Answer) (n offset : ℕ) → stored (lineOf text) out .returned ≡ numberOf told + 256 * n
+      → (isRefusal told ≡ true → (n ≡ 256 * offset) × (stored (lineOf text) out .buffer ≡ out)) → Refuses answer (stored (lineOf text) out .returned)
+      → stored (lineOf text) out ≡ record { returned = numberOf answer + 65536 * offset; buffer = out }
+  line-kept told answer n offset is kept refuses =
+      let same = one-answer told answer (sym (answer-in told n) ∙ ap answerIn (sym is) ∙ refuses .told) in
+      let left = kept (ap isRefusal same ∙ refuses .refusal) in
+      let number = ap numberOf same in
+      let beside = left .0 in
+      let returned : stored (lineOf text) out .returned ≡ numberOf answer + 65536 * offset = omega arith in
+      λ i. record { returned = returned i; buffer = left .1 i }
+
+  read-kept : KeepsBufferAt (lineOf text .offset) (stored (lineOf text) out) out
+  unfolding stored isRefusal
+  read-kept answer refuses =
+      ⊎-elim
+      (λ good. either (ltb (length out) 6)
+      (λ short. line-kept OutputShort answer 0 (lineOf text .offset) (simp (ap isDone (good .1), short)) (λ _. (omega (arith, good .2), simp (ap isDone (good .1), short))) refuses)
+      (λ enough.
+      line-kept Done answer (lineOf text .length) (lineOf text .offset) (simp (ap isDone (good .1), enough) (omega (arith, good .2, ap numberOf (good .1))))
+      (λ r. absurd (false≢true r)) refuses))
+      (λ bad.
+      let other = fault-not-good (lineOf text .answer) (bad .1 .fault) in
+      let none : lineOf text .length ≡ 0 = ap (λ (l : Line). l .length) (bad .1 .zeros) in
+      line-kept (lineOf text .answer) answer (256 * lineOf text .offset) (lineOf text .offset) (simp other (omega arith)) (λ _. (refl, simp other)) refuses)
+      (read-or-refused text)
 
 reset-kept : (bytes mem : List ℕ) → KeepsMemory (resetCall bytes mem) mem (λ _. bytes)
 unfolding resetCall isRefusal
@@ -158,6 +181,6 @@ call-refusals =
       picture = λ bytes mem columns lines lit out. picture-kept (recordIn bytes) mem (sizeOf columns lines) (not (eqb lit 0)) out;
       plan = λ wish marks values out. plan-kept (wishIn wish) marks values out;
       write-line = write-kept;
-      read-line = λ text out. read-kept (lineOf text) out;
+      read-line = read-kept;
       import = import-kept;
     }
