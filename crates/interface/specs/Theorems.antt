@@ -65,7 +65,8 @@ KeepsBuffer call out = (answer : Answer) → Refuses answer (call .returned) →
 -- A refused call for a line returns the number and 65,536 times this offset, and leaves the buffer as found.
 abbrev pub KeepsBufferAt : ℕ → Filling → List ℕ → Type 0
 KeepsBufferAt offset call out =
-    (answer : Answer) → Refuses answer (call .returned) → call ≡ record { returned = numberOf answer + 65536 * offset; buffer = out }
+    (answer : Answer) → Refuses answer (call .returned)
+    → call ≡ record { returned = numberOf answer + 65536 * offset; buffer = out }
 
 -- A refused call over a record and a memory returns the bare number, and leaves the memory as found and these bytes of the
 -- record.
