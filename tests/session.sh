@@ -35,9 +35,9 @@ for report in tests/session/*.out; do
     count "$report: a bad line has words" $?
 done
 
-# Each example beside its report.
+# Each example beside its report, and what is told of it where something is.
 for input in examples/*.session; do
-    plays "$input" "${input%.session}.report" none
+    plays "$input" "${input%.session}.report" "${input%.session}.errors"
 done
 
 # A bad line in words, written out once.
