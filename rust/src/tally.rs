@@ -18,6 +18,14 @@ impl Tally {
         self.0.get(&answer).copied().unwrap_or_default()
     }
 
+    /// Has one of these answers not come up? Then it is shown.
+    pub fn misses(&self, answers: &[Answer]) -> bool {
+        let missed = answers.iter().find(|&&answer| self.times(answer) == 0);
+        missed
+            .inspect(|answer| println!("answer {answer} was not seen"))
+            .is_some()
+    }
+
     pub fn sum(&self) -> u64 {
         self.0.values().sum()
     }

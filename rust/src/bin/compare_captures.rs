@@ -100,12 +100,7 @@ fn compare(model: Model, seed: u64, captures: u64) -> bool {
     println!("{captures} captures of seed {seed}: no difference");
     println!("  answers seen: {random}");
     println!("  damaged at every place, {}: {damaged}", damaged.sum());
-    let missed = ANSWERS
-        .into_iter()
-        .find(|&answer| random.times(answer) == 0);
-    missed
-        .inspect(|answer| println!("answer {answer} was not seen"))
-        .is_some()
+    random.misses(&ANSWERS)
 }
 
 fn main() {
