@@ -4,11 +4,11 @@
 
 use crate::bytes::{record_bytes, record_of, wish_of, RECORD_BYTES};
 use crate::font::SHAPES;
-use crate::model::{self, Answer, Importer, Reader, Record, Size, Step, Wish};
+use crate::model::{self, Answer, Importer, Line, Reader, Record, Size, Step, Wish};
 use crate::model::{FONT, TRANSFER_BYTES};
 
 /// The seven calls. Each returns the answer's number plus 256 times a byte, a count or
-/// a length.
+/// a length; that of `read_line` plus 65,536 times an offset.
 pub trait Calls {
     fn reset(&self, record: &mut [u8], memory: &mut [u8]) -> u32;
     fn transfer(&self, record: &mut [u8], memory: &mut [u8], kind: u8, byte: u8, wait: u32) -> u32;
@@ -37,20 +37,33 @@ pub fn value_of(returned: impl Into<u64>) -> usize {
     (returned.into() / 256) as usize
 }
 
+/// What the reader returns: "answer + 256 x length + 65,536 x offset". Neither length nor
+/// offset is above 16.
+pub fn returned_line(answer: Answer, line: &Line) -> u32 {
+    returned(answer, line.length + 256 * line.offset)
+}
+
+/// The length and the offset in what the reader returns.
+pub fn place_of(returned: u32) -> (usize, usize) {
+    let value = value_of(returned);
+    (value % 256, value / 256)
+}
+
 // ---------------------------------------------------------------------------
 // The model behind the calls
 // ---------------------------------------------------------------------------
 
-/// Functions with the shapes of `record_of` and of the model's; `Step`, `Reader` and
-/// `Importer` are the model's own names for three of them.
+/// Functions with the shapes of `record_of` and `line_call` below and of the model's;
+/// `Step`, `Reader` and `Importer` are the model's own names for three of them.
 pub type RecordReader = fn(&[u8]) -> Option<Record>;
+pub type LineCall = fn(Reader, &[u8], &mut [u8]) -> u32;
 pub type Resetter = fn(Record, &mut [u8]) -> (Answer, Record);
 pub type Painter = fn(&Record, &[u8], Size, bool, &mut [u8], &[u8; FONT]) -> Answer;
 pub type Planner = fn(&Wish, &[u8], &[u8], &mut [u8]) -> (Answer, usize);
 pub type Writer = fn(u8, u8, u32, &mut [u8]) -> (Answer, usize);
 
-/// The functions of the model, and the reading of a record's bytes. A wrong model is
-/// this one with a wrong function in it.
+/// The functions of the model, the reading of a record's bytes, and the call that reads a
+/// line. A wrong model is this one with a wrong function in it.
 #[derive(Clone, Copy)]
 pub struct Model {
     pub record_of: RecordReader,
@@ -60,6 +73,7 @@ pub struct Model {
     pub plan: Planner,
     pub write_line: Writer,
     pub read_line: Reader,
+    pub line_call: LineCall,
     pub import: Importer,
 }
 
@@ -72,6 +86,7 @@ pub const MODEL: Model = Model {
     plan: model::plan,
     write_line: model::write_line,
     read_line: model::read_line,
+    line_call,
     import: model::import,
 };
 
@@ -129,20 +144,9 @@ impl Calls for Model {
         returned(answer, length)
     }
 
-    /// "as six bytes: kind, byte, wait little-endian. Returns answer + 256 x length of
-    /// the line: 0, 12 or 11."
     #[inline]
     fn read_line(&self, text: &[u8], out: &mut [u8]) -> u32 {
-        let (answer, line) = (self.read_line)(text);
-        if answer != model::DONE {
-            return returned(answer, 0);
-        }
-        if out.len() < TRANSFER_BYTES {
-            return returned(model::TOO_SHORT, 0);
-        }
-        let transfer = model::transfer_bytes((line.kind, line.byte, line.wait));
-        out[..TRANSFER_BYTES].copy_from_slice(&transfer);
-        returned(model::DONE, line.length)
+        (self.line_call)(self.read_line, text, out)
     }
 
     #[inline]
@@ -150,4 +154,20 @@ impl Calls for Model {
         let (answer, length) = (self.import)(capture, out);
         returned_wide(answer, length)
     }
+}
+
+/// The line at the start of a text "as a transfer of six bytes into an output of at least
+/// six": 16 to 19, then 11.
+#[inline]
+pub fn line_call(read: Reader, text: &[u8], out: &mut [u8]) -> u32 {
+    let (answer, line) = read(text);
+    if answer != model::DONE {
+        return returned_line(answer, &line);
+    }
+    if out.len() < TRANSFER_BYTES {
+        return returned(model::TOO_SHORT, 0);
+    }
+    let transfer = model::transfer_bytes((line.kind, line.byte, line.wait));
+    out[..TRANSFER_BYTES].copy_from_slice(&transfer);
+    returned_line(answer, &line)
 }

@@ -3,10 +3,11 @@
 use std::fmt::{self, Display, Formatter};
 
 use crate::bytes::{BUSY_AT, RECORD_BYTES, WISH_BYTES, WISH_ZEROS};
-use crate::calls::{answer_of, value_of, Calls};
+use crate::calls::{answer_of, place_of, value_of, Calls};
 use crate::model::{little_endian, Answer, Size};
-use crate::model::{BAD_LINE, BUSY, CROSSED, DONE, FIRST_HALF, NOT_A_WISH, NO_CELL};
-use crate::model::{OUT_OF_RANGE, STALE, TOO_SHORT, UNSOUND, WRONG_KIND, WRONG_LENGTH};
+use crate::model::{BAD_BYTE, BAD_KIND, BAD_WAIT, BUSY, CROSSED, DONE, FIRST_HALF};
+use crate::model::{NOT_A_WISH, NO_CELL, NO_NEWLINE, OUT_OF_RANGE, STALE, TOO_SHORT};
+use crate::model::{UNSOUND, WRONG_KIND, WRONG_LENGTH};
 
 /// The functions of the header, in its order, but for the import: texts are made shorter
 /// in other ways, so that it has `imports`.
@@ -59,7 +60,7 @@ impl Function {
             Function::Picture => &[DONE, UNSOUND, WRONG_LENGTH, OUT_OF_RANGE, TOO_SHORT],
             Function::Plan => &[DONE, WRONG_LENGTH, TOO_SHORT, NOT_A_WISH],
             Function::WriteLine => &[DONE, WRONG_KIND, TOO_SHORT],
-            Function::ReadLine => &[DONE, TOO_SHORT, BAD_LINE],
+            Function::ReadLine => &[DONE, TOO_SHORT, BAD_KIND, BAD_BYTE, BAD_WAIT, NO_NEWLINE],
         }
     }
 
@@ -259,11 +260,21 @@ impl Display for Case {
 }
 
 impl Outcome {
+    fn returned_shown(&self, function: Function) -> String {
+        let (answer, value) = (answer_of(self.returned), value_of(self.returned));
+        match function {
+            Function::ReadLine => {
+                let (length, offset) = place_of(self.returned);
+                format!("answer {answer}, length {length}, offset {offset}")
+            }
+            _ => format!("answer {answer}, value {value} ({value:02X}h)"),
+        }
+    }
+
     /// What it returned, and what it left otherwise than the other outcome: a record
     /// whole, and of other bytes those that differ.
     pub fn beside(&self, other: &Outcome, function: Function) -> String {
-        let (answer, value) = (answer_of(self.returned), value_of(self.returned));
-        let mut text = format!("answer {answer}, value {value} ({value:02X}h)");
+        let mut text = self.returned_shown(function);
         let buffers = self.buffers.iter().zip(&other.buffers);
         for (&name, (mine, theirs)) in function.buffers().iter().zip(buffers) {
             match name {

@@ -105,16 +105,16 @@ impl Drawing {
         };
         if text.len() > model::SESSION_BYTES {
             told.extend_from_slice(model::TOO_LONG);
-            let words = model::told("glass", model::TOO_LONG);
+            let words = model::told_too_long("glass");
             written.errors.extend(words.into_bytes());
             return written;
         }
         let played = model::play_until(text, until, self.model.read_line, self.model.transfer);
-        if let Some(at) = played.bad_row {
+        if let Some(bad_line) = played.bad_line {
             told.extend_from_slice(model::HEADER.as_bytes());
-            told.extend_from_slice(&played.report.as_bytes()[at..]);
-            let words = model::told("glass", played.report.as_bytes());
-            written.errors.extend(words.into_bytes());
+            told.extend_from_slice(&played.report.as_bytes()[bad_line.row..]);
+            let place = played.told("glass");
+            written.errors.extend(place.into_bytes());
         }
         let refused = self.refused(&played);
         if form == Form::Bitmap {

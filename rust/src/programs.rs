@@ -11,6 +11,25 @@ pub struct Written {
     pub errors: Vec<u8>,
 }
 
+impl Written {
+    /// Does standard error say what was due?
+    fn tells(&self, due: &Written) -> bool {
+        let lines = split(&self.errors);
+        let told: String = lines.iter().map(|line| without_words(line)).collect();
+        told.as_bytes() == due.errors
+    }
+}
+
+/// A line of standard error, but of a bad line, `NAME: line 3, column 5: words`, only its
+/// place: in which words the fault is told is the program's own matter.
+fn without_words(line: &[u8]) -> String {
+    let line = String::from_utf8_lossy(line);
+    match line.splitn(3, ": ").collect::<Vec<&str>>()[..] {
+        [name, place, _] if place.starts_with("line ") => format!("{name}: {place}:\n"),
+        _ => line.into_owned(),
+    }
+}
+
 /// What a program wrote, and how it ended if not well.
 pub struct Ran {
     pub written: Written,
@@ -20,13 +39,17 @@ pub struct Ran {
 impl Ran {
     /// Did it write what was due, and end well?
     pub fn is(&self, due: &Written) -> bool {
-        self.written == *due && self.ended.is_none()
+        self.written.output == due.output && self.written.tells(due) && self.ended.is_none()
     }
 
-    /// Shows what it wrote to standard error and how it ended, where that is not well.
-    pub fn show_faults(&self) {
+    /// Shows what it wrote to standard error, what was due there if it was not that, and how
+    /// it ended, where that is not well.
+    pub fn show_faults(&self, due: &Written) {
         if !self.written.errors.is_empty() {
             show("the program's standard error", &self.written.errors);
+        }
+        if !self.written.tells(due) {
+            show("standard error should be", &due.errors);
         }
         if let Some(ended) = &self.ended {
             println!("the program ended with {ended}");

@@ -6,7 +6,8 @@
 //!
 //! Each run has a text, a size of the glass, a form and at times a number of transfers;
 //! every byte that PROGRAM writes to
-//! standard output and standard error must be the drawing's. On a difference text and
+//! standard output and standard error must be the drawing's, but for the words in which a
+//! bad line is told behind its place. On a difference text and
 //! size are made smaller, both drawings shown, and the exit is 1. With `--wrong` a
 //! deliberately wrong drawing takes the drawing's place; `--wrong=all` tries each, and
 //! the exit is 0 if all were found out.
@@ -136,10 +137,7 @@ impl Pair<'_> {
         if let Some(at) = first {
             println!("the first {at} bytes are equal");
         }
-        if written.errors != due.errors {
-            show("standard error should be", &due.errors);
-        }
-        ran.show_faults();
+        ran.show_faults(&due);
     }
 }
 
@@ -165,7 +163,7 @@ impl Reached {
         let played = model::play_until(text, wanted.most(), model::read_line, model::transfer);
         self.bounded += u64::from(wanted.until.is_some());
         self.refused += u64::from(played.refused > 0);
-        self.bad_lines += u64::from(played.bad_row.is_some());
+        self.bad_lines += u64::from(played.bad_line.is_some());
         self.displays_on += u64::from(played.rec.d);
         self.halves += u64::from(played.rec.half != Half::None);
     }

@@ -4,14 +4,18 @@
 //! compare_sessions PROGRAM [SEED] [TEXTS] [--wrong | --wrong=NAME | --wrong=all]
 //! ```
 //!
-//! PROGRAM reads a session from standard input and prints its report. On a
-//! difference the text is shrunk, shown with both reports, and the exit is 1.
+//! PROGRAM reads a session from standard input and prints its report; on standard error it
+//! tells the place of a bad line, and the words behind that are not compared. On a
+//! difference the text is shrunk, shown with both reports, and the exit is 1. Every answer
+//! that a report can have must have come up, or the run fails.
 //! With `--wrong` a deliberately wrong model takes the model's place and a
 //! difference must come (exit 1). `--wrong=all` tries every wrong model; there the
 //! exit is 0 if each was found out that can be, and 1 if one was not.
 
 use yaropesk_model::calls::{Model, MODEL};
 use yaropesk_model::model::{self, Answer};
+use yaropesk_model::model::{BAD_BYTE, BAD_KIND, BAD_WAIT, NO_NEWLINE};
+use yaropesk_model::model::{BUSY, CROSSED, DONE, FIRST_HALF, NO_CELL, STALE};
 use yaropesk_model::options::Options;
 use yaropesk_model::programs::{run, show, shrink, Written};
 use yaropesk_model::random::{random_text, SEED};
@@ -20,11 +24,28 @@ use yaropesk_model::wrong;
 
 const DEFAULT_TEXTS: u64 = 2_000;
 
-/// The model's report, and what is told of it on standard error.
+/// What the program calls itself on standard error.
+const NAME: &str = "session";
+
+/// What a row of a report can be answered: a transfer after reset is neither unsound nor
+/// without its memory, and its kind is one of the four.
+const ANSWERS: [Answer; 10] = [
+    DONE, BUSY, FIRST_HALF, NO_CELL, STALE, CROSSED, BAD_KIND, BAD_BYTE, BAD_WAIT, NO_NEWLINE,
+];
+
+/// What the model would write to standard output and standard error.
 fn session(model: Model, text: &[u8]) -> Written {
-    let output = model::session_with(text, model.read_line, model.transfer);
-    let errors = model::told("session", &output).into_bytes();
-    Written { output, errors }
+    if text.len() > model::SESSION_BYTES {
+        return Written {
+            output: model::TOO_LONG.to_vec(),
+            errors: model::told_too_long(NAME).into_bytes(),
+        };
+    }
+    let played = model::play(text, model.read_line, model.transfer);
+    Written {
+        errors: played.told(NAME).into_bytes(),
+        output: played.report.into_bytes(),
+    }
 }
 
 fn differs(program: &str, model: Model, text: &[u8]) -> bool {
@@ -34,14 +55,15 @@ fn differs(program: &str, model: Model, text: &[u8]) -> bool {
 /// Shows the shortest text on which program and model differ.
 fn show_difference(program: &str, model: Model, text: &[u8]) {
     let short = shrink(text, |text| differs(program, model, text));
-    let ran = run(program, &[], &short);
+    let (ran, due) = (run(program, &[], &short), session(model, &short));
     show("shortest text", &short);
     show("the program prints", &ran.written.output);
-    show("the model prints", &session(model, &short).output);
-    ran.show_faults();
+    show("the model prints", &due.output);
+    ran.show_faults(&due);
 }
 
-/// Compares on so many texts; true when a difference was found (and shown).
+/// Compares on so many texts; true when a difference was found, or an answer missed (and
+/// shown).
 fn compare(program: &str, model: Model, seed: u64, texts: u64) -> bool {
     let (mut bytes, mut at_limit, mut too_long) = (0, 0, 0);
     let mut answers = Tally::default();
@@ -61,7 +83,7 @@ fn compare(program: &str, model: Model, seed: u64, texts: u64) -> bool {
     println!("{texts} texts of seed {seed}, {bytes} bytes: no difference");
     println!("{at_limit} texts of 65,536 bytes, {too_long} longer");
     println!("answers seen: {answers}");
-    false
+    answers.misses(&ANSWERS)
 }
 
 /// How often each answer stands in a report, to show what the texts reach.

@@ -27,14 +27,20 @@ pub const CROSSED: Answer = 8;
 pub const OUT_OF_RANGE: Answer = 10;
 /// "output too short"
 pub const TOO_SHORT: Answer = 11;
-/// "bad line"
-pub const BAD_LINE: Answer = 12;
-/// "not a wish"
+/// "not a wish". 12, "bad line", is retired by request c.
 pub const NOT_A_WISH: Answer = 13;
 /// Request b: "text outside the subset (a needed name twice or an undeclared code too)"
 pub const OUTSIDE_SUBSET: Answer = 14;
 /// Request b: "needed signal missing"
 pub const SIGNAL_MISSING: Answer = 15;
+/// Request c: "kind or its tab"
+pub const BAD_KIND: Answer = 16;
+/// Request c: "byte or its tab"
+pub const BAD_BYTE: Answer = 17;
+/// Request c: "wait"
+pub const BAD_WAIT: Answer = 18;
+/// Request c: "no newline where one must stand"
+pub const NO_NEWLINE: Answer = 19;
 /// Request b: "x or z on a needed line at a fall (DB lines only for writes)"
 pub const UNKNOWN_LEVEL: Answer = 28;
 
@@ -57,10 +63,13 @@ pub fn words(answer: Answer) -> &'static str {
         CROSSED => "crossed halves, done",
         OUT_OF_RANGE => "columns or lines out of range",
         TOO_SHORT => "output too short",
-        BAD_LINE => "bad line",
         NOT_A_WISH => "not a wish",
         OUTSIDE_SUBSET => "text outside the subset",
         SIGNAL_MISSING => "needed signal missing",
+        BAD_KIND => "kind or its tab",
+        BAD_BYTE => "byte or its tab",
+        BAD_WAIT => "wait",
+        NO_NEWLINE => "no newline where one must stand",
         UNKNOWN_LEVEL => "x or z on a needed line at a fall",
         _ => unreachable!("no such answer is given"),
     }

@@ -1,11 +1,11 @@
 //! The rules of document 01 (`01-scope.md`) in plain Rust, a file for each of its chapters;
-//! "Session lines" has two. Request b of document 02 (`02-change-requests.md`) has a folder,
-//! `capture/`.
+//! "Session lines" has two. Of document 02 (`02-change-requests.md`) request b has a folder,
+//! `capture/`, and request c is in `lines.rs`.
 //!
 //! Written from the documents alone, apart from the proved code.
-//! Sentences in quotation marks are those of document 01, and in `capture/` those of the
-//! request; "reading n" is the n-th reading of docs/DECISIONS.md. Time is whole
-//! microseconds.
+//! Sentences in quotation marks are those of document 01, and in `capture/` and `lines.rs`
+//! those of the requests; "reading n" is the n-th reading of docs/DECISIONS.md. Time is
+//! whole microseconds.
 //!
 //! Every function is total, and a refusal leaves lent bytes as it found them.
 
@@ -27,7 +27,7 @@ pub use plan::{little_endian, transfer_bytes, transfers_of};
 pub use plan::{plan, Wish, PLAN_BYTES, TRANSFER_BYTES};
 pub use record::{address, is_sound, place, record_after_reset, reset, Counter, Half, Record};
 pub use record::{DISPLAY_CELLS, LONGEST_BUSY, MEMORY, PATTERN_CELLS};
-pub use session::{play, play_until, session, session_with, told, Played, Reader, Step};
+pub use session::{play, play_until, session, told_too_long, BadLine, Played, Reader, Step};
 pub use session::{HEADER, SESSION_BYTES, TOO_LONG};
 pub use transfer::{is_read, transfer, Transfer, LONG_TIME, SHORT_TIME};
 pub use transfer::{DATA_READ, DATA_WRITE, INSTRUCTION_WRITE, KINDS, STATUS_READ};

@@ -17,44 +17,29 @@ pub type Step = fn(Record, &mut [u8], u8, u8, u32) -> (Answer, u8, Record);
 
 /// The whole report of the session program on an input.
 pub fn session(text: &[u8]) -> Vec<u8> {
-    session_with(text, read_line, transfer)
-}
-
-/// The same with a reader and a transfer of the caller's, so that a deliberately
-/// wrong one can be put in and the comparison be seen to fail.
-pub fn session_with(text: &[u8], read: Reader, step: Step) -> Vec<u8> {
     // "longer: the one line `too long`"
     if text.len() > SESSION_BYTES {
         return TOO_LONG.to_vec();
     }
-    play(text, read, step).report.into_bytes()
+    play(text, read_line, transfer).report.into_bytes()
 }
 
-/// What a program tells on standard error of a text with this report: that it is too
-/// long, its bad line, or nothing.
-pub fn told(program: &str, report: &[u8]) -> String {
-    if report == TOO_LONG {
-        return format!(
-            "{program}: the session is longer than 65,536 bytes, the most that is taken. \
-             Nothing was played.\n"
-        );
-    }
-    let Some(number) = bad_line(report) else {
-        return String::new();
-    };
+/// What a program tells on standard error of a text that is too long.
+pub fn told_too_long(program: &str) -> String {
     format!(
-        "{program}: line {number} is not a session line. A line is I, D, S or R, a tab, \
-         two hex digits in capitals (00 for S and R), a tab, the wait in microseconds \
-         without leading zeros, up to 4294967295, and a newline: I<tab>38<tab>15000\n"
+        "{program}: the session is longer than 65,536 bytes, the most that is taken. \
+         Nothing was played.\n"
     )
 }
 
-/// The number of the bad line that ends a report, if one does.
-fn bad_line(report: &[u8]) -> Option<&str> {
-    let report = std::str::from_utf8(report).ok()?;
-    let mut fields = report.lines().last()?.split('\t');
-    let number = fields.next()?;
-    (fields.next() == Some("12")).then_some(number)
+/// The bad line that ends a session.
+#[derive(Clone, Copy, Debug, PartialEq, Eq)]
+pub struct BadLine {
+    pub number: usize,
+    /// Where in the line its fault is.
+    pub offset: usize,
+    /// Where in the report its row begins.
+    pub row: usize,
 }
 
 /// A text of lines, played to its end or to its first bad line.
@@ -62,8 +47,7 @@ pub struct Played {
     pub rec: Record,
     pub mem: [u8; MEMORY],
     pub report: String,
-    /// Where in the report the row of the bad line begins, if there was one.
-    pub bad_row: Option<usize>,
+    pub bad_line: Option<BadLine>,
     /// The transfers that were played, and those of them that were refused.
     pub transfers: usize,
     pub refused: usize,
@@ -80,7 +64,7 @@ impl Played {
             rec,
             mem,
             report: String::from(HEADER),
-            bad_row: None,
+            bad_line: None,
             transfers: 0,
             refused: 0,
             first_refused: None,
@@ -93,6 +77,15 @@ impl Played {
         let busy = self.rec.busy;
         let row = format!("{number}\t{answer}\t{byte:02X}\t{busy}\n");
         self.report.push_str(&row);
+    }
+
+    /// What a program tells on standard error of the bad line, if there was one: its place,
+    /// the column counted from 1. The words behind that are the program's own.
+    pub fn told(&self, program: &str) -> String {
+        let Some(BadLine { number, offset, .. }) = self.bad_line else {
+            return String::new();
+        };
+        format!("{program}: line {number}, column {}:\n", offset + 1)
     }
 }
 
@@ -109,9 +102,14 @@ pub fn play_until(text: &[u8], until: usize, read: Reader, step: Step) -> Played
     while !rest.is_empty() && number <= until {
         let (read_answer, line) = read(rest);
         // "A bad line prints its number, answer 12, byte 00 and the busy as it
-        // stands, and ends it."
+        // stands, and ends it." Request c: "the session program prints the finer number",
+        // and 12 is retired.
         if read_answer != DONE {
-            played.bad_row = Some(played.report.len());
+            played.bad_line = Some(BadLine {
+                number,
+                offset: line.offset,
+                row: played.report.len(),
+            });
             played.row(number, read_answer, 0x00);
             break;
         }

@@ -25,7 +25,7 @@ fn reads_carriage_return(text: &[u8]) -> (Answer, Line) {
 fn reads_great_waits(text: &[u8]) -> (Answer, Line) {
     let (answer, line) = model::read_line(text);
     let newline = text.iter().position(|&byte| byte == b'\n');
-    if let (model::BAD_LINE, Some(end @ 16)) = (answer, newline.map(|at| at + 1)) {
+    if let (model::BAD_WAIT, Some(end @ 16)) = (answer, newline.map(|at| at + 1)) {
         let digits = std::str::from_utf8(&text[5..end - 1]).unwrap_or("");
         if let Ok(wait @ 4_294_967_296..) = digits.parse::<u64>() {
             let mut fixed = text[..5].to_vec();

@@ -1,7 +1,9 @@
-//! The model keeps the rules of document 01: a file for each chapter, or a part of one.
+//! The model keeps the rules of document 01, a file for each chapter, or a part of one, and
+//! request c of document 02, `fields`.
 
 mod bench_cases;
 mod dots;
+mod fields;
 mod font;
 mod given;
 mod halves;
