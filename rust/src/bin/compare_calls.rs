@@ -23,6 +23,8 @@ use yaropesk_model::wrong;
 
 const DEFAULT_CALLS: u64 = 2_000_000;
 
+/// How many lines are damaged at every place.
+const LINES: u64 = 100;
 const SEQUENCES: u64 = 200;
 const SEQUENCE_TRANSFERS: u64 = 2_000;
 const TRIALS: u64 = 1_000;
@@ -84,6 +86,17 @@ impl Comparison {
         Ok(())
     }
 
+    /// Lines that are damaged at every place.
+    fn damaged_lines(&mut self) -> Stop {
+        for number in 0..LINES {
+            let mut chance = self.chance(5, number);
+            for case in random::calls::damaged_lines(&mut chance) {
+                self.call(&case)?;
+            }
+        }
+        Ok(())
+    }
+
     /// Long sequences of transfers from reset, each from where the one before it left.
     fn sequences(&mut self) -> Stop {
         for number in 0..SEQUENCES {
@@ -123,6 +136,7 @@ impl Comparison {
     fn run(&mut self, calls: u64) -> Stop {
         self.every_kind_and_byte()?;
         self.random_calls(calls)?;
+        self.damaged_lines()?;
         self.sequences()?;
         self.trials()?;
         self.all_answers_seen()
@@ -152,8 +166,8 @@ fn compare(model: Model, seed: u64, calls: u64) -> bool {
         println!("  {}", comparison.counted(function));
     }
     println!(
-        "  {SEQUENCES} sequences of {SEQUENCE_TRANSFERS} transfers from reset, \
-         {TRIALS} plans with random cuts"
+        "  {LINES} lines damaged at every place, {SEQUENCES} sequences of \
+         {SEQUENCE_TRANSFERS} transfers from reset, {TRIALS} plans with random cuts"
     );
     false
 }

@@ -168,23 +168,27 @@ fn text(chance: &mut Chance) -> Vec<u8> {
         1..=18 => lines::damaged_line(chance),
         _ => lines::good_line(chance),
     };
-    match chance.below(4) {
-        0 => text.extend(lines::good_line(chance)),
-        1 => text.extend({
-            let length = chance.index(20);
-            chance.bytes(length)
-        }),
-        _ => {}
-    }
+    text.extend(lines::behind_line(chance));
     text
 }
 
 fn read_line(chance: &mut Chance) -> Case {
+    let text = text(chance);
+    read_text(chance, text)
+}
+
+fn read_text(chance: &mut Chance, text: Vec<u8>) -> Case {
     Case {
         function: Function::ReadLine,
-        buffers: vec![text(chance), output(chance, TRANSFER_BYTES)],
+        buffers: vec![text, output(chance, TRANSFER_BYTES)],
         numbers: [0; 3],
     }
+}
+
+/// The readings of a line with every damage to it.
+pub fn damaged_lines(chance: &mut Chance) -> Vec<Case> {
+    let texts = lines::every_damage(chance).into_iter();
+    texts.map(|text| read_text(chance, text)).collect()
 }
 
 // ---------------------------------------------------------------------------

@@ -75,17 +75,23 @@ pub fn damage(chance: &mut Chance, text: &mut Vec<u8>) {
 pub fn every_damage(text: &[u8]) -> Vec<Vec<u8>> {
     let mut damaged = Vec::new();
     for at in 0..text.len() {
-        let (before, behind) = (&text[..at], &text[at + 1..]);
-        damaged.push([before, behind].concat());
-        damaged.push([before, &text[at..=at], &text[at..=at], behind].concat());
-        for &byte in BYTES {
-            damaged.push([before, &[byte], behind].concat());
-        }
+        damaged.extend(byte_damages(text, at, BYTES));
         let begins = !is_blank(text[at]) && (at == 0 || is_blank(text[at - 1]));
         if begins {
             damaged.extend(WORD_DAMAGES.map(|damage| damage(text, at)));
         }
     }
+    damaged
+}
+
+/// The byte at a place dropped, doubled, and changed to each of these.
+pub(super) fn byte_damages(text: &[u8], at: usize, bytes: &[u8]) -> Vec<Vec<u8>> {
+    let (before, byte, behind) = (&text[..at], &text[at..=at], &text[at + 1..]);
+    let mut damaged = vec![
+        [before, behind].concat(),
+        [before, byte, byte, behind].concat(),
+    ];
+    damaged.extend(bytes.iter().map(|&new| [before, &[new], behind].concat()));
     damaged
 }
 

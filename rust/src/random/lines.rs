@@ -1,5 +1,6 @@
 //! Random session lines, good and damaged.
 
+use super::damage::byte_damages;
 use super::Chance;
 use crate::model::{is_read, letter, KINDS};
 
@@ -31,17 +32,57 @@ pub fn good_line(chance: &mut Chance) -> Vec<u8> {
     line(kind, byte, wait(chance).into())
 }
 
-/// A line that should be bad, or nearly so.
+/// A line that should be bad, or nearly so; now and then in two places, so that one fault
+/// comes first.
 pub fn damaged_line(chance: &mut Chance) -> Vec<u8> {
-    match chance.below(8) {
-        0..=1 => bad_wait(chance).into_bytes(),
-        2..=3 => bad_byte(chance).into_bytes(),
-        4..=5 => bad_form(chance).into_bytes(),
-        _ => {
-            let mut line = good_line(chance);
-            edit(chance, &mut line);
-            line
+    let (mut line, edits) = match chance.below(8) {
+        0..=1 => (bad_wait(chance).into_bytes(), chance.pick(&[0, 0, 1])),
+        2..=3 => (bad_byte(chance).into_bytes(), chance.pick(&[0, 0, 1])),
+        4..=5 => (bad_form(chance).into_bytes(), chance.pick(&[0, 0, 1])),
+        _ => (good_line(chance), chance.pick(&[1, 1, 2])),
+    };
+    for _ in 0..edits {
+        edit(chance, &mut line);
+    }
+    line
+}
+
+/// A line, good or damaged, and every text that one damage makes of it: at each place a byte
+/// is dropped, doubled, changed to each of the 256 or exchanged with the one before it, or
+/// each of the 256 is put in. The same stands behind each of them; then come those that end
+/// at each place.
+pub fn every_damage(chance: &mut Chance) -> Vec<Vec<u8>> {
+    let line = match chance.percent(70) {
+        true => good_line(chance),
+        false => damaged_line(chance),
+    };
+    let all: Vec<u8> = (u8::MIN..=u8::MAX).collect();
+    let mut damaged = vec![line.clone()];
+    for at in 0..line.len() {
+        damaged.extend(byte_damages(&line, at, &all));
+        let (before, behind) = line.split_at(at);
+        damaged.extend(all.iter().map(|&new| [before, &[new], behind].concat()));
+        let mut exchanged = line.clone();
+        exchanged.swap(at.saturating_sub(1), at);
+        damaged.push(exchanged);
+    }
+    let after = behind_line(chance);
+    for text in &mut damaged {
+        text.extend_from_slice(&after);
+    }
+    damaged.extend((0..=line.len()).map(|length| line[..length].to_vec()));
+    damaged
+}
+
+/// What may stand behind a line: nothing, another one, or anything.
+pub fn behind_line(chance: &mut Chance) -> Vec<u8> {
+    match chance.below(4) {
+        0 => good_line(chance),
+        1 => {
+            let length = chance.index(20);
+            chance.bytes(length)
         }
+        _ => Vec::new(),
     }
 }
 
@@ -106,6 +147,9 @@ fn bad_form(chance: &mut Chance) -> String {
 
 /// One byte replaced, put in or taken out, or the line cut.
 fn edit(chance: &mut Chance, line: &mut Vec<u8>) {
+    if line.is_empty() {
+        return;
+    }
     let at = chance.index(line.len());
     let any = chance.byte();
     let near = line[at].wrapping_add(chance.pick(&[1, 0xFF, 0x20, 0xE0]));
