@@ -10,9 +10,10 @@ mod record;
 mod transfer;
 
 use crate::calls::{Model, MODEL};
+use crate::model::{Reader, Step};
 use capture::WRONG_IMPORTERS;
 use dots::WRONG_PAINTERS;
-use lines::{WRONG_READERS, WRONG_WRITERS};
+use lines::{UNSEEN_READERS, WRONG_LINE_CALLS, WRONG_READERS, WRONG_WRITERS};
 use plan::WRONG_PLANNERS;
 use record::{WRONG_RECORDS, WRONG_RESETS};
 use transfer::{UNSEEN_STEPS, WRONG_STEPS};
@@ -32,18 +33,34 @@ pub fn each<F: Copy, M>(wrong: &[(&'static str, F)], place: fn(F) -> M) -> Vec<(
 
 /// The wrong models that play sessions.
 pub fn of_sessions() -> Vec<Named> {
+    [steps(&WRONG_STEPS), readers(&WRONG_READERS)].concat()
+}
+
+fn steps(wrong: &[(&'static str, Step)]) -> Vec<Named> {
+    each(wrong, |transfer| Model { transfer, ..MODEL })
+}
+
+fn readers(wrong: &[(&'static str, Reader)]) -> Vec<Named> {
+    each(wrong, |read_line| Model { read_line, ..MODEL })
+}
+
+/// The wrong models that read lines.
+pub fn of_lines() -> Vec<Named> {
     [
-        each(&WRONG_STEPS, |transfer| Model { transfer, ..MODEL }),
-        each(&WRONG_READERS, |read_line| Model { read_line, ..MODEL }),
+        readers(&WRONG_READERS),
+        readers(&UNSEEN_READERS),
+        each(&WRONG_LINE_CALLS, |line_call| Model { line_call, ..MODEL }),
     ]
     .concat()
 }
 
-/// Those, and the ones that only calls find out.
+/// The wrong models of all functions but the import: those that play sessions, and the ones
+/// that only calls find out.
 pub fn of_calls() -> Vec<Named> {
     [
-        of_sessions(),
-        each(&UNSEEN_STEPS, |transfer| Model { transfer, ..MODEL }),
+        steps(&WRONG_STEPS),
+        steps(&UNSEEN_STEPS),
+        of_lines(),
         each(&WRONG_RECORDS, |record_of| Model { record_of, ..MODEL }),
         each(&WRONG_RESETS, |reset| Model { reset, ..MODEL }),
         each(&WRONG_PAINTERS, |picture| Model { picture, ..MODEL }),
