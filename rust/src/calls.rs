@@ -37,7 +37,7 @@ pub fn value_of(returned: impl Into<u64>) -> usize {
     (returned.into() / 256) as usize
 }
 
-/// What the reader returns: "answer + 256 x length + 65,536 x offset". Neither length nor
+/// What the reader returns: answer + 256 x length + 65,536 x offset. Neither length nor
 /// offset is above 16.
 pub fn returned_line(answer: Answer, line: &Line) -> u32 {
     returned(answer, line.length + 256 * line.offset)

@@ -1,6 +1,6 @@
 //! Damage to captures: a byte changed, dropped or doubled, a word or a section dropped or
 //! doubled, a word turned round, the end cut off, or a piece put in that the subset does not
-//! have there.
+//! have there. That of a byte is done to lines too.
 
 use super::Chance;
 use crate::model::capture::is_blank;

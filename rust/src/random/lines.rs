@@ -36,12 +36,12 @@ pub fn good_line(chance: &mut Chance) -> Vec<u8> {
 /// comes first.
 pub fn damaged_line(chance: &mut Chance) -> Vec<u8> {
     let (mut line, edits) = match chance.below(8) {
-        0..=1 => (bad_wait(chance).into_bytes(), chance.pick(&[0, 0, 1])),
-        2..=3 => (bad_byte(chance).into_bytes(), chance.pick(&[0, 0, 1])),
-        4..=5 => (bad_form(chance).into_bytes(), chance.pick(&[0, 0, 1])),
-        _ => (good_line(chance), chance.pick(&[1, 1, 2])),
+        0..=1 => (bad_wait(chance).into_bytes(), 0),
+        2..=3 => (bad_byte(chance).into_bytes(), 0),
+        4..=5 => (bad_form(chance).into_bytes(), 0),
+        _ => (good_line(chance), 1),
     };
-    for _ in 0..edits {
+    for _ in 0..edits + chance.pick(&[0, 0, 1]) {
         edit(chance, &mut line);
     }
     line

@@ -135,7 +135,7 @@ fn fault_later(text: &[u8]) -> (Answer, Line) {
     told_as(text, |(answer, offset, _)| (answer, offset + 1))
 }
 
-/// "18 for 19 after a digit".
+/// 18 for 19 after a digit.
 fn ending_as_wait(text: &[u8]) -> (Answer, Line) {
     told_as(text, |(answer, offset, _)| match answer {
         NO_NEWLINE => (BAD_WAIT, offset),
