@@ -49,8 +49,10 @@ for name in p11 hello; do
     is_stored "examples/$name.session" "$name"
 done
 
-# Of every example: definitions first, of the eleven signals, then stamps and changes of one of the eleven codes alone.
+# Of every example without a bad line: definitions first, of the eleven signals, then stamps and changes of one of the eleven
+# codes alone.
 for input in examples/*.session; do
+    [ ! -e "${input%.session}.errors" ] || continue
     timeout 20 "$program" < "$input" 2> /dev/null | awk '
         NR == 1 { wrong += $0 != "$timescale 1 us $end" }
         NR > 1 && NR < 13 { wrong += !/^\$var wire 1 [a-k] (RS|RW|E|DB[0-7]) \$end$/ }
