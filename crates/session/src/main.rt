@@ -4,7 +4,6 @@ ghost use mathlib.Core.Path.{_≡_};
 ghost use Prim.Native.Nat.{_+_, _*_, _≤_};
 ghost use lib.ListN.{length};
 ghost use Rattle.controller.specs.declared.answers.Answer.the-variants.{Done};
-use controller::is_done;
 use libc::STDOUT_FILENO;
 use lines::Written;
 use lines::first;
@@ -35,13 +34,23 @@ fn print(text: &[u8]) {
     }
 }
 
-// Tells of the bad line that ended a session, if one did.
+// Whether a report ends with the row of a bad line: its answer alone has two digits, so that six bytes before the row's last tab
+// stands the tab before the answer.
+fn ends_badly(report: &[u8]) -> bool {
+    let mut at = report.len();
+    while 6 < at {
+        at -= 1;
+        if report[at] == b'\t' {
+            return report[at - 6] == b'\t';
+        }
+    }
+    false
+}
+
+// Tells of the bad line that ended a session.
 fn tell_end(text: &[u8]) {
     let standing = play_through(text, u64::MAX);
-    let answer = standing.answer;
-    if !is_done(answer) {
-        tell_bad_line(b"session", standing.number, text, standing.from);
-    }
+    tell_bad_line(b"session", standing.number, text, standing.from);
 }
 
 fn report(text: &[u8])
@@ -49,8 +58,11 @@ fn report(text: &[u8])
 {
     let mut out = [0u8; OUTPUT];
     let written = write_report(text, &mut out);
-    print(first(&out, written.length));
-    tell_end(text);
+    let report = first(&out, written.length);
+    print(report);
+    if ends_badly(report) {
+        tell_end(text);
+    }
 }
 
 fn main() {

@@ -21,11 +21,17 @@ first-requires c κs = search needs
 print-requires : tie.Need-print-requires
 print-requires c κs = search needs
 
+ends-badly-requires : tie.Need-ends-badly-requires
+ends-badly-requires c κs = search needs
+
 tell-end-requires : tie.Need-tell-end-requires
 tell-end-requires c κs = search needs
 
 returns : tie.Need-returns
 returns c = search needs
+
+returns-2 : tie.Need-returns-2
+returns-2 c = search needs
 
 pub report-spec : {M : Type 1} → statement M
 report-spec =
@@ -36,5 +42,7 @@ report-spec =
     slice-aggregate-first
     first-requires
     print-requires
+    ends-badly-requires
     tell-end-requires
-    returns)
+    returns
+    returns-2)
