@@ -2,6 +2,7 @@ pub mod Choice
 pub mod Tests
 pub mod Answers
 pub mod Cells
+pub mod Oscillator
 pub mod Record
 pub mod Instruction
 pub mod Completed

@@ -8,3 +8,4 @@ pub mod Rules
 pub mod Halves
 pub mod HalfRules
 pub mod Clear
+pub mod Times

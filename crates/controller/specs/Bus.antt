@@ -55,10 +55,12 @@ decided rec mem kind byte wait =
     (cond (badTransfer kind byte) (refused BadTransfer rec)
     (ordered mem kind byte rec (waited wait rec))))
 
--- What reset comes to: display cells 20h and the record above, or 2 and the record it was given.
+-- What reset comes to: display cells 20h and the record that it leaves, or 2 and the record it was given.
 unfoldable pub resetDecided : Record → List ℕ → Decision
 resetDecided rec mem =
-    cond (whole mem) (record { answer = Done; byte = 0; rec = resetRecord; effect = Blank }) (refused NotWhole rec)
+    cond (whole mem)
+    (record { answer = Done; byte = 0; rec = resetRecord (rec .frequency); effect = Blank })
+    (refused NotWhole rec)
 
 -- What `transfer` and `reset` promise of a decision: what is returned, its number in the table, and every byte of the memory.
 pub record Performs (d : Decision) (before : List ℕ) (returned : Outcome) (after : List ℕ) : Type 0 where

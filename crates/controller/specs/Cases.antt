@@ -19,6 +19,7 @@ use Rattle.controller.specs.Answers.{numberOf}
 use Rattle.controller.specs.Decision.{performed, done}
 use Rattle.controller.specs.Execute.{homed, longTime}
 use Rattle.controller.specs.Halves.{highHalf, lowHalf}
+use Rattle.controller.specs.Oscillator.{fitted, older}
 use Rattle.controller.specs.Record.{sound, waited, withHalf}
 use Rattle.controller.specs.declared.sent.Sent.{Sent}
 use Rattle.controller.specs.Runs.{State, decidedOf, after, ran, heard}
@@ -103,7 +104,7 @@ P8 =
 abbrev pub P9 : Type 0
 P9 =
     (rec : Record) (mem : List ℕ) (wait : ℕ) → Waits rec mem false (InstructionWrite 0) wait
-    → decided rec mem 0 0x30 wait ≡ done longTime Keep (homed (withHalf Empty (waited wait rec)))
+    → decided rec mem 0 0x30 wait ≡ done (longTime (rec .frequency)) Keep (homed (withHalf Empty (waited wait rec)))
 
 -- P10: half data write 4h waiting, then instruction 30h: cell gets 43h, answer 8.
 abbrev pub P10 : Type 0
@@ -112,7 +113,7 @@ P10 =
     → (numberOf (decided rec mem 0 0x30 wait .answer) ≡ 8)
     × (getD (performed (decided rec mem 0 0x30 wait .effect) mem) (placeOf (rec .counter)) 0 ≡ 0x43)
 
--- P11: six transfers from reset,
+-- P11: six transfers from reset, where it leaves 250 kHz,
 abbrev pub sentIn11 : List Sent
 sentIn11 =
     record { kind = 0; byte = 0x38; wait = 15000 }
@@ -126,7 +127,7 @@ sentIn11 =
 -- and what is told of each.
 abbrev pub P11 : Type 0
 P11 =
-    (rec : Record) (mem : List ℕ) → length mem ≡ 144
+    (rec : Record) (mem : List ℕ) → length mem ≡ 144 → fitted (rec .frequency) ≡ older
     → heard (afterReset rec mem) sentIn11
     ≡ record { answer = 0; byte = 0x00; busy = 40 }
     ∷ record { answer = 0; byte = 0x80; busy = 40 }

@@ -17,23 +17,25 @@ use Rattle.controller.specs.declared.instruction.Instruction.{Instructio
 use Rattle.controller.specs.declared.instruction.Instruction.the-variants.{Nothing, Clear, Home, SetEntry, SetControl}
 use Rattle.controller.specs.declared.instruction.Instruction.the-variants.{MoveCursor, ShiftDisplay, SetFunction}
 use Rattle.controller.specs.declared.instruction.Instruction.the-variants.{PatternAddress, DisplayAddress}
+use Rattle.controller.specs.declared.oscillator.Frequency.{Frequency}
 use Rattle.controller.specs.declared.«record».Record.{Record}
 use Rattle.controller.specs.Cells.{byteUnder, placeOf, wrapped, stepped, cellOfAdd, cellOfAcg, addressOf}
 use Rattle.controller.specs.Decision.{done, refused}
 use Rattle.controller.specs.Instruction.{decoded}
+use Rattle.controller.specs.Oscillator.{timeAt}
 use Rattle.controller.specs.Record.{withFunction, withControl, withEntry, withShift, withCounter, withRegister, withBusy}
 
--- The time of all instructions but Clear and Home, of data writes and of data reads (document 002, 250 kHz).
-unfoldable pub shortTime : ℕ
-shortTime = 40
+-- The time of all instructions but Clear and Home, of data writes and of data reads: 40 at 250 kHz (document 002).
+unfoldable pub shortTime : Frequency → ℕ
+shortTime frequency = timeAt 40 frequency
 
--- The time of Clear and Home.
-unfoldable pub longTime : ℕ
-longTime = 1640
+-- The time of Clear and Home: 1,640 at 250 kHz.
+unfoldable pub longTime : Frequency → ℕ
+longTime frequency = timeAt 1640 frequency
 
 -- Done in the short time, the memory as it was.
 abbrev pub changed : Record → Decision
-changed rec = done shortTime Keep rec
+changed rec = done (shortTime (rec .frequency)) Keep rec
 
 -- The counter placed on this cell, by an instruction.
 abbrev pub placed : Counter → Record → Record
@@ -76,8 +78,8 @@ addressed mem Outside rec = refused NoCell rec
 -- What each instruction does.
 unfoldable pub executed : List ℕ → Instruction → Record → Decision
 executed mem Nothing rec = changed rec
-executed mem Clear rec = done longTime Blank (cleared rec)
-executed mem Home rec = done longTime Keep (homed rec)
+executed mem Clear rec = done (longTime (rec .frequency)) Blank (cleared rec)
+executed mem Home rec = done (longTime (rec .frequency)) Keep (homed rec)
 executed mem (SetEntry entry) rec = changed (withEntry entry rec)
 executed mem (SetControl control) rec = changed (withControl control rec)
 executed mem (MoveCursor right) rec = changed (cursorAt mem (stepped right (rec .counter)) rec)
@@ -94,7 +96,8 @@ carried (Pattern cell) rec = rec
 -- Data write: byte into the counter's cell, register holds the byte, stale; counter +1 or -1 by I/D, and the shift with it.
 unfoldable pub written : ℕ → Record → Decision
 written byte rec =
-    done shortTime (Store (placeOf (rec .counter)) byte) (withRegister byte false (carried (rec .counter) (movedOn rec)))
+    done (shortTime (rec .frequency)) (Store (placeOf (rec .counter)) byte)
+    (withRegister byte false (carried (rec .counter) (movedOn rec)))
 
 -- Data read: returns the byte, moves the counter, loads the register from the new cell, fresh; never shifts. A stale one is
 -- answered 7.
@@ -103,7 +106,7 @@ readOut mem byte rec =
     record {
       answer = cond (rec .fresh) Done StaleRead;
       byte = byte;
-      rec = withBusy shortTime (loaded mem (movedOn rec));
+      rec = withBusy (shortTime (rec .frequency)) (loaded mem (movedOn rec));
       effect = Keep;
     }
 

@@ -51,6 +51,7 @@ pub record TakesFirst (rec : Record) (mem : List ℕ) (kind byte wait : ℕ) (d 
   pub half : Stored rec kind byte wait (d .rec .half)
   pub returned : d .byte ≡ highHalf (takenByte (d .rec .half))
   pub busy : d .rec .busy ≡ rec .busy - wait
+  pub frequency : d .rec .frequency ≡ rec .frequency
   pub function : SameFunction rec (d .rec)
   pub control : SameControl rec (d .rec)
   pub entry : SameEntry rec (d .rec)
@@ -75,7 +76,7 @@ pub record Crosses (own d : Decision) : Type 0 where
 
 -- The second half of a status read: the low half of what was taken, and the wait has come off busy once more.
 pub record EndsStatus (rec : Record) (mem : List ℕ) (taken wait : ℕ) (d : Decision) : Type 0 where
-  pub comes : Comes d 0 (lowHalf taken) (rec .busy - wait)
+  pub comes : Comes rec d 0 (lowHalf taken) (rec .busy - wait)
   pub function : SameFunction rec (d .rec)
   pub control : SameControl rec (d .rec)
   pub entry : SameEntry rec (d .rec)

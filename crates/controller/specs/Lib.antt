@@ -1,5 +1,6 @@
 pub mod Answers
 pub mod Cells
+pub mod Oscillator
 pub mod Record
 pub mod Decision
 pub mod Instruction
@@ -14,3 +15,4 @@ pub mod Theorems
 pub mod Cases
 pub mod Rules
 pub mod HalfRules
+pub mod Times

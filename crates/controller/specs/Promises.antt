@@ -8,12 +8,14 @@ use Rattle.controller.specs.declared.answers.Answer.{Answer}
 use Rattle.controller.specs.declared.cells.Counter.{Counter}
 use Rattle.controller.specs.declared.decision.Outcome.{Outcome}
 use Rattle.controller.specs.declared.loan.Told.{Told}
+use Rattle.controller.specs.declared.oscillator.Frequency.{Frequency}
 use Rattle.controller.specs.declared.sent.Sent.{Sent}
 use Rattle.controller.specs.declared.«record».Record.{Record}
 use Rattle.controller.specs.Answers.{numberOf, isDone, isRefusal}
 use Rattle.controller.specs.Bus.{Performs, PerformsIn, badTransfer, decided, resetDecided, whole}
 use Rattle.controller.specs.Cells.{addressSet, cellOf, lineLength}
 use Rattle.controller.specs.Execute.{shortTime, longTime}
+use Rattle.controller.specs.Oscillator.{inRange}
 use Rattle.controller.specs.Record.{sound, resetRecord}
 use Rattle.controller.specs.Sent.{littleEndian, numberFrom, sixBytes}
 
@@ -53,9 +55,13 @@ IsDonePromise answer returned = returned ≡ isDone answer
 abbrev pub IsRefusalPromise : Answer → Bool → Type 0
 IsRefusalPromise answer returned = returned ≡ isRefusal answer
 
--- `after_reset`: the record that reset leaves.
-abbrev pub AfterResetPromise : Record → Type 0
-AfterResetPromise returned = returned ≡ resetRecord
+-- `after_reset`: the record that reset leaves where this oscillator is fitted.
+abbrev pub AfterResetPromise : Frequency → Record → Type 0
+AfterResetPromise frequency returned = returned ≡ resetRecord frequency
+
+-- `is_in_range`: whether a module may have this frequency.
+abbrev pub IsInRangePromise : Frequency → Bool → Type 0
+IsInRangePromise frequency returned = returned ≡ inRange frequency
 
 -- `address_set`: the instruction that sets the counter to this cell.
 abbrev pub AddressSetPromise : Bool → Counter → ℕ → Type 0
@@ -82,9 +88,9 @@ abbrev pub LineLengthPromise : Bool → ℕ → Type 0
 LineLengthPromise n returned = returned ≡ lineLength n
 
 -- `short_time`: how long all takes that takes time, but for Clear and Home.
-abbrev pub ShortTimePromise : ℕ → Type 0
-ShortTimePromise returned = returned ≡ shortTime
+abbrev pub ShortTimePromise : Frequency → ℕ → Type 0
+ShortTimePromise frequency returned = returned ≡ shortTime frequency
 
 -- `long_time`: how long Clear and Home take.
-abbrev pub LongTimePromise : ℕ → Type 0
-LongTimePromise returned = returned ≡ longTime
+abbrev pub LongTimePromise : Frequency → ℕ → Type 0
+LongTimePromise frequency returned = returned ≡ longTime frequency

@@ -14,7 +14,9 @@ use Rattle.controller.specs.declared.«record».Function.{Function}
 use Rattle.controller.specs.declared.«record».Half.{Half}
 use Rattle.controller.specs.declared.«record».Half.the-variants.{Empty, InstructionWrite, DataWrite, StatusRead, DataRead}
 use Rattle.controller.specs.declared.«record».Record.{Record}
+use Rattle.controller.specs.declared.oscillator.Frequency.{Frequency}
 use Rattle.controller.specs.Cells.{onCell}
+use Rattle.controller.specs.Oscillator.{inRange, fitted}
 
 -- The time that reset takes, and the most that busy can be.
 unfoldable pub resetTime : ℕ
@@ -28,15 +30,17 @@ halfSound wide busy (DataWrite high) = not wide && (ltb high 16 && eqb busy 0)
 halfSound wide busy (StatusRead byte) = not wide
 halfSound wide busy (DataRead byte) = not wide && eqb busy 0
 
--- Shift 0 to 79, the counter on a cell, busy 0 to 10,000, and the half as it may wait.
+-- Shift 0 to 79, the counter on a cell, busy 0 to 10,000, the frequency in range, and the half as it may wait.
 unfoldable pub sound : Record → Bool
 sound rec =
-    ltb (rec .shift) 80 && (onCell (rec .counter) && (leb (rec .busy) resetTime && halfSound (rec .wide) (rec .busy) (rec .half)))
+    ltb (rec .shift) 80
+    && (onCell (rec .counter)
+    && (leb (rec .busy) resetTime && (inRange (rec .frequency) && halfSound (rec .wide) (rec .busy) (rec .half))))
 
 -- The record that reset leaves: width 8, N=F=D=C=B=S=0, I/D=1, shift 0, counter display cell 0, register 00h stale, no half,
--- busy 10,000.
-unfoldable pub resetRecord : Record
-resetRecord =
+-- busy 10,000; a frequency in range is kept, and 250 put for any other.
+unfoldable pub resetRecord : Frequency → Record
+resetRecord frequency =
     record {
       wide = true;
       function = record { n = false; f = false };
@@ -47,6 +51,7 @@ resetRecord =
       reg = 0;
       fresh = false;
       busy = resetTime;
+      frequency = fitted frequency;
       half = Empty;
     }
 
@@ -63,6 +68,7 @@ withFunction wide function r =
       reg = r .reg;
       fresh = r .fresh;
       busy = r .busy;
+      frequency = r .frequency;
       half = r .half;
     }
 
@@ -79,6 +85,7 @@ withControl control r =
       reg = r .reg;
       fresh = r .fresh;
       busy = r .busy;
+      frequency = r .frequency;
       half = r .half;
     }
 
@@ -95,6 +102,7 @@ withEntry entry r =
       reg = r .reg;
       fresh = r .fresh;
       busy = r .busy;
+      frequency = r .frequency;
       half = r .half;
     }
 
@@ -111,6 +119,7 @@ withShift shift r =
       reg = r .reg;
       fresh = r .fresh;
       busy = r .busy;
+      frequency = r .frequency;
       half = r .half;
     }
 
@@ -127,6 +136,7 @@ withCounter counter r =
       reg = r .reg;
       fresh = r .fresh;
       busy = r .busy;
+      frequency = r .frequency;
       half = r .half;
     }
 
@@ -143,6 +153,7 @@ withRegister reg fresh r =
       reg = reg;
       fresh = fresh;
       busy = r .busy;
+      frequency = r .frequency;
       half = r .half;
     }
 
@@ -159,6 +170,7 @@ withBusy busy r =
       reg = r .reg;
       fresh = r .fresh;
       busy = busy;
+      frequency = r .frequency;
       half = r .half;
     }
 
@@ -175,6 +187,7 @@ withHalf half r =
       reg = r .reg;
       fresh = r .fresh;
       busy = r .busy;
+      frequency = r .frequency;
       half = half;
     }
 

@@ -14,6 +14,7 @@ use Rattle.controller.specs.declared.cells.Named.{Named}
 use Rattle.controller.specs.declared.cells.Named.the-variants.{Cell, Outside}
 use Rattle.controller.specs.declared.execute.Transfer.{Transfer}
 use Rattle.controller.specs.declared.execute.Transfer.the-variants.{Instruct, Write, Status, Read}
+use Rattle.controller.specs.declared.oscillator.Frequency.{Frequency}
 use Rattle.controller.specs.declared.«record».Half.{Half}
 use Rattle.controller.specs.declared.«record».Half.the-variants.{Empty, InstructionWrite, DataWrite, StatusRead, DataRead}
 use Rattle.controller.specs.declared.«record».Record.{Record}
@@ -35,10 +36,17 @@ HalfBreaks wide busy (DataWrite high) = (wide ≡ true) ⊎ ((16 ≤ high) ⊎ (
 HalfBreaks wide busy (StatusRead taken) = wide ≡ true
 HalfBreaks wide busy (DataRead taken) = (wide ≡ true) ⊎ (0 < busy)
 
--- Row 1: a shift of 80 or more, a counter on no cell, a busy time above 10,000, or a half that may not wait.
+-- A frequency below 190 kHz or above 350.
+abbrev pub OutOfRange : Frequency → Type 0
+OutOfRange frequency = (frequency .khz < 190) ⊎ (350 < frequency .khz)
+
+-- Row 1: a shift of 80 or more, a counter on no cell, a busy time above 10,000, a frequency out of range, or a half that may not
+-- wait.
 abbrev pub Breaks : Record → Type 0
 Breaks rec =
-    (80 ≤ rec .shift) ⊎ (OffCells (rec .counter) ⊎ ((10000 < rec .busy) ⊎ HalfBreaks (rec .wide) (rec .busy) (rec .half)))
+    (80 ≤ rec .shift)
+    ⊎ (OffCells (rec .counter)
+    ⊎ ((10000 < rec .busy) ⊎ (OutOfRange (rec .frequency) ⊎ HalfBreaks (rec .wide) (rec .busy) (rec .half))))
 
 -- Row 2: not 144 long.
 abbrev pub NotLong : List ℕ → Type 0

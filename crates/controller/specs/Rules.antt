@@ -1,5 +1,6 @@
 -- The rules of one transfer said a second time: each row of document 01's list by its range of bytes, field by field, with every
--- other field as it was (document 01, "One transfer"). A rule that is bent in code and definition alike is caught here.
+-- other field as it was (document 01, "One transfer"). A rule that is bent in code and definition alike is caught here. Each time
+-- is that of 250 kHz, taken at the record's frequency.
 -- Assumes nothing.
 use mathlib.Core.Bool.{Bool, true, false, cond, not, _&&_}
 use mathlib.Core.List.{List}
@@ -20,6 +21,7 @@ use Rattle.controller.specs.Cases.{Waits, taking}
 use Rattle.controller.specs.Cells.{addressSet, onCell, placeOf}
 use Rattle.controller.specs.Decision.{performed}
 use Rattle.controller.specs.Halves.{highHalf, lowHalf}
+use Rattle.controller.specs.Oscillator.{timeAt}
 use Rattle.controller.specs.Record.{sound, withFunction}
 use Rattle.controller.specs.Rows.{NoTransfer}
 
@@ -47,11 +49,12 @@ pub record SamePlace (old new : Record) : Type 0 where
   pub reg : new .reg ≡ old .reg
   pub fresh : new .fresh ≡ old .fresh
 
--- The answer's number, the byte returned, the busy time that is set, and no half waiting.
-pub record Comes (d : Decision) (number returned time : ℕ) : Type 0 where
+-- The answer's number, the byte returned, the busy time that is set, the frequency as it was, and no half waiting.
+pub record Comes (rec : Record) (d : Decision) (number returned time : ℕ) : Type 0 where
   pub answer : numberOf (d .answer) ≡ number
   pub byte : d .byte ≡ returned
   pub busy : d .rec .busy ≡ time
+  pub frequency : d .rec .frequency ≡ rec .frequency
   pub half : d .rec .half ≡ Empty
 
 -- Each memory cell after it.
@@ -68,7 +71,7 @@ isSet worth byte = eqb (byte / worth % 2) 1
 
 -- 00h: nothing, in 40.
 pub record DoesNothing (rec : Record) (mem : List ℕ) (byte : ℕ) (d : Decision) : Type 0 where
-  pub comes : Comes d 0 0x00 40
+  pub comes : Comes rec d 0 0x00 (timeAt 40 (rec .frequency))
   pub function : SameFunction rec (d .rec)
   pub control : SameControl rec (d .rec)
   pub entry : SameEntry rec (d .rec)
@@ -77,7 +80,7 @@ pub record DoesNothing (rec : Record) (mem : List ℕ) (byte : ℕ) (d : Decisio
 
 -- What Clear and Home share: counter cell 0, shift 0, register stale; width, N, F, D, C and B stay. In 1,640.
 pub record Homes (rec : Record) (d : Decision) : Type 0 where
-  pub comes : Comes d 0 0x00 1640
+  pub comes : Comes rec d 0 0x00 (timeAt 1640 (rec .frequency))
   pub function : SameFunction rec (d .rec)
   pub control : SameControl rec (d .rec)
   pub shift : d .rec .shift ≡ 0
@@ -100,7 +103,7 @@ pub record GoesHome (rec : Record) (mem : List ℕ) (byte : ℕ) (d : Decision) 
 
 -- 04h-07h: I/D is bit 1, S bit 0.
 pub record SetsEntry (rec : Record) (mem : List ℕ) (byte : ℕ) (d : Decision) : Type 0 where
-  pub comes : Comes d 0 0x00 40
+  pub comes : Comes rec d 0 0x00 (timeAt 40 (rec .frequency))
   pub function : SameFunction rec (d .rec)
   pub control : SameControl rec (d .rec)
   pub id : d .rec .entry .id ≡ isSet 0x02 byte
@@ -110,7 +113,7 @@ pub record SetsEntry (rec : Record) (mem : List ℕ) (byte : ℕ) (d : Decision)
 
 -- 08h-0Fh: D is bit 2, C bit 1, B bit 0.
 pub record SetsControl (rec : Record) (mem : List ℕ) (byte : ℕ) (d : Decision) : Type 0 where
-  pub comes : Comes d 0 0x00 40
+  pub comes : Comes rec d 0 0x00 (timeAt 40 (rec .frequency))
   pub function : SameFunction rec (d .rec)
   pub d-bit : d .rec .control .d ≡ isSet 0x04 byte
   pub c-bit : d .rec .control .c ≡ isSet 0x02 byte
@@ -137,7 +140,7 @@ MovedRegister old mem new (Pattern cell) = (new .reg ≡ old .reg) × (new .fres
 
 -- 10h-17h, S/C=0: the counter one left (R/L=0) or right, bit 2 being R/L.
 pub record MovesCounter (rec : Record) (mem : List ℕ) (byte : ℕ) (d : Decision) : Type 0 where
-  pub comes : Comes d 0 0x00 40
+  pub comes : Comes rec d 0 0x00 (timeAt 40 (rec .frequency))
   pub function : SameFunction rec (d .rec)
   pub control : SameControl rec (d .rec)
   pub entry : SameEntry rec (d .rec)
@@ -148,7 +151,7 @@ pub record MovesCounter (rec : Record) (mem : List ℕ) (byte : ℕ) (d : Decisi
 
 -- 18h-1Fh, S/C=1: left (R/L=0) adds 1 to shift, right takes 1, modulo 80.
 pub record ShiftsDisplay (rec : Record) (mem : List ℕ) (byte : ℕ) (d : Decision) : Type 0 where
-  pub comes : Comes d 0 0x00 40
+  pub comes : Comes rec d 0 0x00 (timeAt 40 (rec .frequency))
   pub function : SameFunction rec (d .rec)
   pub control : SameControl rec (d .rec)
   pub entry : SameEntry rec (d .rec)
@@ -160,7 +163,7 @@ pub record ShiftsDisplay (rec : Record) (mem : List ℕ) (byte : ℕ) (d : Decis
 
 -- 20h-3Fh: DL is bit 4, N bit 3, F bit 2. Width follows DL at once.
 pub record SetsFunction (rec : Record) (mem : List ℕ) (byte : ℕ) (d : Decision) : Type 0 where
-  pub comes : Comes d 0 0x00 40
+  pub comes : Comes rec d 0 0x00 (timeAt 40 (rec .frequency))
   pub wide : d .rec .wide ≡ isSet 0x10 byte
   pub n : d .rec .function .n ≡ isSet 0x08 byte
   pub f : d .rec .function .f ≡ isSet 0x04 byte
@@ -171,7 +174,7 @@ pub record SetsFunction (rec : Record) (mem : List ℕ) (byte : ℕ) (d : Decisi
 
 -- The counter on this cell and the register loaded from it, fresh: what an address set does. All else as it was.
 pub record GoesTo (to : Counter) (place : ℕ) (rec : Record) (mem : List ℕ) (d : Decision) : Type 0 where
-  pub comes : Comes d 0 0x00 40
+  pub comes : Comes rec d 0 0x00 (timeAt 40 (rec .frequency))
   pub function : SameFunction rec (d .rec)
   pub control : SameControl rec (d .rec)
   pub entry : SameEntry rec (d .rec)
@@ -194,7 +197,7 @@ Names true address cell =
 
 -- Answer 6: byte 00h, busy over, and all else as it was.
 pub record LacksCell (rec : Record) (mem : List ℕ) (d : Decision) : Type 0 where
-  pub comes : Comes d 6 0x00 0
+  pub comes : Comes rec d 6 0x00 0
   pub function : SameFunction rec (d .rec)
   pub control : SameControl rec (d .rec)
   pub entry : SameEntry rec (d .rec)
@@ -233,7 +236,7 @@ inDisplay (Pattern cell) = false
 -- Data write: byte into the counter's cell, register holds the byte, stale; counter +1 or -1 by I/D. In display memory with S=1
 -- the shift then moves, +1 if I/D=1, else -1.
 pub record WritesData (rec : Record) (mem : List ℕ) (byte : ℕ) (d : Decision) : Type 0 where
-  pub comes : Comes d 0 0x00 40
+  pub comes : Comes rec d 0 0x00 (timeAt 40 (rec .frequency))
   pub function : SameFunction rec (d .rec)
   pub control : SameControl rec (d .rec)
   pub entry : SameEntry rec (d .rec)
@@ -247,7 +250,7 @@ pub record WritesData (rec : Record) (mem : List ℕ) (byte : ℕ) (d : Decision
 -- Data read: returns the register, moves the counter, loads the register from the new cell, fresh; a stale one is answered 7. The
 -- shift is as it was, whatever S is.
 pub record ReadsData (rec : Record) (mem : List ℕ) (d : Decision) : Type 0 where
-  pub comes : Comes d (cond (rec .fresh) 0 7) (rec .reg) 40
+  pub comes : Comes rec d (cond (rec .fresh) 0 7) (rec .reg) (timeAt 40 (rec .frequency))
   pub function : SameFunction rec (d .rec)
   pub control : SameControl rec (d .rec)
   pub entry : SameEntry rec (d .rec)
@@ -265,7 +268,7 @@ Addresses n (Pattern cell) address = address ≡ cell
 -- Status: bit 7 busy above 0, bits 6 to 0 the counter's address. It takes no time and alters nothing; the wait has come off busy.
 pub record ReadsStatus (rec : Record) (mem : List ℕ) (wait : ℕ) (d : Decision) : Type 0 where
   pub byte : (address : ℕ) → Addresses (rec .function .n) (rec .counter) address
-      → Comes d 0 (cond (ltb 0 (rec .busy - wait)) 0x80 0 + address) (rec .busy - wait)
+      → Comes rec d 0 (cond (ltb 0 (rec .busy - wait)) 0x80 0 + address) (rec .busy - wait)
   pub function : SameFunction rec (d .rec)
   pub control : SameControl rec (d .rec)
   pub entry : SameEntry rec (d .rec)
@@ -346,7 +349,7 @@ ClearLeavesRest =
 abbrev pub ClearRunsRight : Type 0
 ClearRunsRight =
     (wide : Bool) (rec : Record) (mem : List ℕ) (byte wait later then last : ℕ) → Waits rec mem wide Empty wait → byte < 256
-    → 1640 ≤ then
+    → timeAt 1640 (rec .frequency) ≤ then
     → let d : Decision = taking wide rec mem 0 0x01 wait later in
     taking (d .rec .wide) (d .rec) (performed (d .effect) mem) 1 byte then last .rec .counter ≡ Display 1
 

@@ -12,6 +12,7 @@ use Rattle.controller.specs.declared.answers.Answer.the-variants.{NotWho
 use Rattle.controller.specs.declared.decision.Decision.{Decision}
 use Rattle.controller.specs.declared.decision.Outcome.{Outcome}
 use Rattle.controller.specs.declared.loan.Told.{Told}
+use Rattle.controller.specs.declared.oscillator.Frequency.{Frequency}
 use Rattle.controller.specs.declared.«record».Half.the-variants.{Empty}
 use Rattle.controller.specs.declared.«record».Record.{Record}
 use Rattle.controller.specs.Bus.{whole, decided, resetDecided, Performs, PerformsIn}
@@ -126,10 +127,10 @@ OneNumber = (answer : Answer) (a b : ℕ) → a ≡ numberOf answer → b ≡ nu
 abbrev pub OneLineLength : Type 0
 OneLineLength = (n : Bool) (a b : ℕ) → a ≡ lineLength n → b ≡ lineLength n → a ≡ b
 
--- There is one short time.
+-- There is one short time at a frequency.
 abbrev pub OneShortTime : Type 0
-OneShortTime = (a b : ℕ) → a ≡ shortTime → b ≡ shortTime → a ≡ b
+OneShortTime = (frequency : Frequency) (a b : ℕ) → a ≡ shortTime frequency → b ≡ shortTime frequency → a ≡ b
 
 -- There is one long time.
 abbrev pub OneLongTime : Type 0
-OneLongTime = (a b : ℕ) → a ≡ longTime → b ≡ longTime → a ≡ b
+OneLongTime = (frequency : Frequency) (a b : ℕ) → a ≡ longTime frequency → b ≡ longTime frequency → a ≡ b

@@ -88,11 +88,12 @@ fn decide(rec: Record, memory: &[u8], kind: u8, byte: u8, wait: u32) -> Decision
 fn decide_reset(rec: Record, memory: &[u8]) -> Decision
     ensures { λ r. ⌜ r ≡ resetDecided rec (now (memory .entry)) ⌝ }
 {
+    let frequency = rec.frequency;
     if is_whole(memory) {
         return Decision {
             answer: Answer::Done,
             byte: 0,
-            rec: after_reset(),
+            rec: after_reset(frequency),
             effect: Effect::Blank,
         };
     }
@@ -110,7 +111,7 @@ pub fn transfer(rec: Record, memory: &mut [u8], kind: u8, byte: u8, wait: u32) -
     tell(decision)
 }
 
-// Power on. Any record will do, and an unsound one becomes sound.
+// Power on. Any record will do, and an unsound one becomes sound; of what it holds only a frequency in range is kept.
 pub fn reset(rec: Record, memory: &mut [u8]) -> Outcome
     ensures { λ r. ⌜ ResetPromise rec (now (memory .entry)) r (now (memory .exit)) ⌝ }
 {

@@ -25,6 +25,8 @@ use crate::decision::finish;
 use crate::decision::refuse;
 use crate::instruction::Instruction;
 use crate::instruction::decode;
+use crate::oscillator::Frequency;
+use crate::oscillator::time_at;
 use crate::record::Control;
 use crate::record::Entry;
 use crate::record::Function;
@@ -38,17 +40,18 @@ pub enum Transfer {
     Read(u8),
 }
 
-// Microseconds at 250 kHz (document 002): Clear and Home take the long time, all else that takes time the short one.
-pub fn short_time() -> u32
-    ensures { λ r. ⌜ ShortTimePromise r ⌝ }
+// Clear and Home take the long time, all else that takes time the short one: 1,640 and 40 microseconds at 250 kHz (document
+// 002), and at another frequency as much longer or shorter.
+pub fn short_time(frequency: Frequency) -> u32
+    ensures { λ r. ⌜ ShortTimePromise frequency r ⌝ }
 {
-    40
+    time_at(40, frequency)
 }
 
-pub fn long_time() -> u32
-    ensures { λ r. ⌜ LongTimePromise r ⌝ }
+pub fn long_time(frequency: Frequency) -> u32
+    ensures { λ r. ⌜ LongTimePromise frequency r ⌝ }
 {
-    1_640
+    time_at(1_640, frequency)
 }
 
 // The counter placed on this cell.
@@ -160,7 +163,8 @@ fn set_function(wide: bool, function: Function, rec: Record) -> Record
 fn change(rec: Record) -> Decision
     ensures { λ r. ⌜ r ≡ changed rec ⌝ }
 {
-    finish(short_time(), Effect::Keep, rec)
+    let frequency = rec.frequency;
+    finish(short_time(frequency), Effect::Keep, rec)
 }
 
 // A display address: its cell, or refusal 6.
@@ -179,10 +183,11 @@ fn execute(memory: &[u8], instruction: Instruction, rec: Record) -> Decision
     ensures { λ r. ⌜ r ≡ executed (now (memory .entry)) instruction rec ⌝ }
 {
     let counter = rec.counter;
+    let frequency = rec.frequency;
     match instruction {
         Instruction::Nothing => change(rec),
-        Instruction::Clear => finish(long_time(), Effect::Blank, clear(rec)),
-        Instruction::Home => finish(long_time(), Effect::Keep, home(rec)),
+        Instruction::Clear => finish(long_time(frequency), Effect::Blank, clear(rec)),
+        Instruction::Home => finish(long_time(frequency), Effect::Keep, home(rec)),
         Instruction::SetEntry(entry) => change(set_entry(entry, rec)),
         Instruction::SetControl(control) => change(set_control(control, rec)),
         Instruction::MoveCursor(right) => change(cursor_to(memory, step(right, counter), rec)),
@@ -218,10 +223,15 @@ fn write(byte: u8, rec: Record) -> Decision
     ensures { λ r. ⌜ r ≡ written byte rec ⌝ }
 {
     let counter = rec.counter;
+    let frequency = rec.frequency;
     let mut next = carry(counter, move_on(rec));
     next.reg = byte;
     next.fresh = false;
-    finish(short_time(), Effect::Store(place(counter), byte), next)
+    finish(
+        short_time(frequency),
+        Effect::Store(place(counter), byte),
+        next,
+    )
 }
 
 fn read_answer(fresh: bool) -> Answer
@@ -238,8 +248,9 @@ fn read(memory: &[u8], byte: u8, rec: Record) -> Decision
     requires { ⌜ Ready rec (now memory) ⌝ }
     ensures { λ r. ⌜ r ≡ readOut (now (memory .entry)) byte rec ⌝ }
 {
+    let frequency = rec.frequency;
     let mut next = load_register(memory, move_on(rec));
-    next.busy = short_time();
+    next.busy = short_time(frequency);
     Decision {
         answer: read_answer(rec.fresh),
         byte,

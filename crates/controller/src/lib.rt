@@ -10,6 +10,7 @@ mod execute;
 mod halves;
 mod instruction;
 mod loan;
+mod oscillator;
 mod record;
 mod sent;
 
@@ -32,6 +33,8 @@ pub use execute::long_time;
 pub use execute::short_time;
 pub use loan::Told;
 pub use loan::transfer_in;
+pub use oscillator::Frequency;
+pub use oscillator::is_in_range;
 pub use record::Control;
 pub use record::Entry;
 pub use record::Function;

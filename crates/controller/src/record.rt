@@ -3,6 +3,9 @@ ghost use mathlib.Core.Path.{_≡_};
 ghost use Rattle.controller.specs.Promises.{AfterResetPromise, IsSoundPromise};
 ghost use Rattle.controller.specs.Record.{busyOver, halfSound, resetTime, waited, withHalf};
 use crate::cells::Counter;
+use crate::oscillator::Frequency;
+use crate::oscillator::fit;
+use crate::oscillator::is_in_range;
 
 // What Function Set sets, beside the width: N, two lines, and F, tall letters.
 pub struct Function {
@@ -33,6 +36,7 @@ pub enum Half {
 }
 
 // `wide`: width 8, and 4 where false. `reg`: the data register, which is `fresh` or stale. `busy`: microseconds left.
+// `frequency`: that of the oscillator which is fitted.
 pub struct Record {
     pub wide: bool,
     pub function: Function,
@@ -43,6 +47,7 @@ pub struct Record {
     pub reg: u8,
     pub fresh: bool,
     pub busy: u32,
+    pub frequency: Frequency,
     pub half: Half,
 }
 
@@ -69,15 +74,17 @@ pub fn is_sound(rec: Record) -> bool
     ensures { λ r. ⌜ IsSoundPromise rec r ⌝ }
 {
     let counter = rec.counter;
+    let frequency = rec.frequency;
     let half = rec.half;
     rec.shift < 80
         && (crate::cells::on_cell(counter)
-            && (rec.busy <= reset_time() && half_is_sound(rec.wide, rec.busy, half)))
+            && (rec.busy <= reset_time()
+                && (is_in_range(frequency) && half_is_sound(rec.wide, rec.busy, half))))
 }
 
-// The record that reset leaves.
-pub fn after_reset() -> Record
-    ensures { λ r. ⌜ AfterResetPromise r ⌝ }
+// The record that reset leaves where this oscillator is fitted: a frequency in range is kept, and 250 put for any other.
+pub fn after_reset(frequency: Frequency) -> Record
+    ensures { λ r. ⌜ AfterResetPromise frequency r ⌝ }
 {
     Record {
         wide: true,
@@ -93,6 +100,7 @@ pub fn after_reset() -> Record
         reg: 0,
         fresh: false,
         busy: reset_time(),
+        frequency: fit(frequency),
         half: Half::Empty,
     }
 }

@@ -10,7 +10,7 @@ use lib.ListN.{length}
 use borrow.Author.Tests.{lt-ltb, ltb-false, eqb-true, eqb-false, ne-eqb, not-false}
 use Rattle.controller.proofs.Laws.Choice.{cond-elim}
 use Rattle.controller.proofs.Laws.Completed.{Kept, Idle, completed-carried}
-use Rattle.controller.proofs.Laws.Record.{sound-shift, sound-counter, sound-busy, sound-half, sound-of, waited-sound, whole-length}
+use Rattle.controller.proofs.Laws.Record.{sound-shift, sound-counter, sound-busy, sound-frequency, sound-half, sound-of, waited-sound, whole-length}
 use Rattle.controller.specs.declared.decision.Decision.{Decision}
 use Rattle.controller.specs.declared.execute.Transfer.{Transfer}
 use Rattle.controller.specs.declared.execute.Transfer.the-variants.{Instruct, Write, Status, Read}
@@ -29,13 +29,14 @@ second-kept : (mem : List ℕ) (same : Bool) (transfer : Transfer) (rec : Record
     → Kept mem (secondHalf mem same transfer rec)
 unfolding secondHalf
 second-kept mem same transfer rec long s =
-    let idle : Idle (withHalf Empty rec) = record { shift = sound-shift rec s; counter = sound-counter rec s; half = refl } in
+    let idle : Idle (withHalf Empty rec) = record { shift = sound-shift rec s; counter = sound-counter rec s; frequency = sound-frequency rec s; half = refl } in
     let kept = completed-carried mem transfer (withHalf Empty rec) .kept long (sound-busy rec s) idle in
     record { sound = kept .sound; fits = kept .fits }
 
 -- a record that holds a half as it may wait
 holding-sound : (half : Half) (rec : Record) → sound rec ≡ true → halfSound (rec .wide) (rec .busy) half ≡ true → sound (withHalf half rec) ≡ true
-holding-sound half rec s holds = sound-of (withHalf half rec) (sound-shift rec s) (sound-counter rec s) (sound-busy rec s) holds
+holding-sound half rec s holds =
+    sound-of (withHalf half rec) (sound-shift rec s) (sound-counter rec s) (sound-busy rec s) (sound-frequency rec s) holds
 
 -- a write's half, stored at width 4 with busy 0
 write-holds : (wide : Bool) (busy byte : ℕ) → wide ≡ false → busy ≡ 0 → byte < 256 → (not wide && (ltb (byte / 16) 16 && eqb busy 0)) ≡ true
@@ -85,7 +86,12 @@ unfolding accepted
 accepted-kept mem kind byte rec below long s may =
     cond-elim (Kept mem) (rec .wide) (completed mem (begun kind byte rec) rec) (narrow mem kind byte (rec .half) rec)
     (λ wide. completed-carried mem _ rec .kept long (sound-busy rec s)
-    (record { shift = sound-shift rec s; counter = sound-counter rec s; half = wide-none (rec .wide) (rec .busy) (rec .half) wide (sound-half rec s) }))
+    (record {
+      shift = sound-shift rec s;
+      counter = sound-counter rec s;
+      frequency = sound-frequency rec s;
+      half = wide-none (rec .wide) (rec .busy) (rec .half) wide (sound-half rec s);
+    }))
     (λ thin. narrow-kept mem kind byte (rec .half) rec refl below thin long s may)
 
 pub decided-kept : (rec : Record) (mem : List ℕ) (kind byte wait : ℕ) → byte < 256 → sound rec ≡ true → Kept mem (decided rec mem kind byte wait)

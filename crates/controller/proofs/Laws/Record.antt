@@ -14,9 +14,10 @@ use Rattle.controller.specs.declared.«record».Half.the-variants.{Empty
 use Rattle.controller.specs.declared.«record».Record.{Record}
 use Rattle.controller.specs.Bus.{whole}
 use Rattle.controller.specs.Cells.{onCell}
+use Rattle.controller.specs.Oscillator.{inRange}
 use Rattle.controller.specs.Record.{resetTime, halfSound, sound, withBusy, busyOver, waited, FourBits, Ready}
 
--- the four parts of soundness
+-- the five parts of soundness
 pub sound-shift : (rec : Record) → sound rec ≡ true → rec .shift < 80
 unfolding sound
 sound-shift rec s = ltb-true (rec .shift) 80 (and-left _ _ s)
@@ -29,15 +30,21 @@ pub sound-busy : (rec : Record) → sound rec ≡ true → rec .busy ≤ resetTi
 unfolding sound
 sound-busy rec s = leb-true (rec .busy) resetTime (and-left _ _ (and-right (onCell (rec .counter)) _ (and-right (ltb (rec .shift) 80) _ s)))
 
-pub sound-half : (rec : Record) → sound rec ≡ true → halfSound (rec .wide) (rec .busy) (rec .half) ≡ true
+-- what is tested after busy
+later : (rec : Record) → sound rec ≡ true → (inRange (rec .frequency) && halfSound (rec .wide) (rec .busy) (rec .half)) ≡ true
 unfolding sound
-sound-half rec s =
-    and-right (leb (rec .busy) resetTime) _ (and-right (onCell (rec .counter)) _ (and-right (ltb (rec .shift) 80) _ s))
+later rec s = and-right (leb (rec .busy) resetTime) _ (and-right (onCell (rec .counter)) _ (and-right (ltb (rec .shift) 80) _ s))
 
-pub sound-of : (rec : Record) → rec .shift < 80 → onCell (rec .counter) ≡ true → rec .busy ≤ resetTime
+pub sound-frequency : (rec : Record) → sound rec ≡ true → inRange (rec .frequency) ≡ true
+sound-frequency rec s = and-left _ _ (later rec s)
+
+pub sound-half : (rec : Record) → sound rec ≡ true → halfSound (rec .wide) (rec .busy) (rec .half) ≡ true
+sound-half rec s = and-right (inRange (rec .frequency)) _ (later rec s)
+
+pub sound-of : (rec : Record) → rec .shift < 80 → onCell (rec .counter) ≡ true → rec .busy ≤ resetTime → inRange (rec .frequency) ≡ true
     → halfSound (rec .wide) (rec .busy) (rec .half) ≡ true → sound rec ≡ true
 unfolding sound
-sound-of rec shift counter busy half = simp (lt-ltb _ _ shift, counter, le-leb _ _ busy, half)
+sound-of rec shift counter busy frequency half = simp (lt-ltb _ _ shift, counter, le-leb _ _ busy, frequency, half)
 
 -- a write's half is four bits
 pub half-four-bits : (wide : Bool) (busy : ℕ) (half : Half) → halfSound wide busy half ≡ true → FourBits half
@@ -69,7 +76,7 @@ half-less wide less busy (DataRead byte) under s = and-again true (not wide) _ _
 
 less-sound : (less : ℕ) (rec : Record) → less ≤ rec .busy → sound rec ≡ true → sound (withBusy less rec) ≡ true
 less-sound less rec under s =
-    sound-of (withBusy less rec) (sound-shift rec s) (sound-counter rec s) (omega (arith, sound-busy rec s))
+    sound-of (withBusy less rec) (sound-shift rec s) (sound-counter rec s) (omega (arith, sound-busy rec s)) (sound-frequency rec s)
     (half-less (rec .wide) less (rec .busy) (rec .half) under (sound-half rec s))
 
 -- waiting keeps a record sound

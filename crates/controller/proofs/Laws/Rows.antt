@@ -13,13 +13,15 @@ use Rattle.controller.proofs.Laws.Record.{waited-keeps}
 use Rattle.controller.proofs.Laws.Tests.{Tests, Fails, fails-and, fails-eq, fails-le, fails-lt, fails-not, fails-zero, tests-and, tests-as, tests-eq, tests-fails, tests-le, tests-lt, tests-not, tests-or}
 use Rattle.controller.specs.declared.cells.Counter.{Counter}
 use Rattle.controller.specs.declared.cells.Counter.the-variants.{Display, Pattern}
+use Rattle.controller.specs.declared.oscillator.Frequency.{Frequency}
 use Rattle.controller.specs.declared.«record».Half.{Half}
 use Rattle.controller.specs.declared.«record».Half.the-variants.{Empty, InstructionWrite, DataWrite, StatusRead, DataRead}
 use Rattle.controller.specs.declared.«record».Record.{Record}
 use Rattle.controller.specs.Bus.{badTransfer, mustWait, noHalf, whole}
 use Rattle.controller.specs.Cells.{onCell}
+use Rattle.controller.specs.Oscillator.{inRange}
 use Rattle.controller.specs.Record.{halfSound, resetTime, sound, waited}
-use Rattle.controller.specs.Rows.{Breaks, HalfBreaks, IsFirst, NoTransfer, NotLong, OffCells, TooEarly}
+use Rattle.controller.specs.Rows.{Breaks, HalfBreaks, IsFirst, NoTransfer, NotLong, OffCells, OutOfRange, TooEarly}
 
 off-fails : (counter : Counter) → Fails (onCell counter) (OffCells counter)
 unfolding onCell
@@ -37,13 +39,18 @@ half-fails wide busy (DataWrite high) = fails-and _ _ (fails-not wide) (fails-an
 half-fails wide busy (StatusRead taken) = fails-not wide
 half-fails wide busy (DataRead taken) = fails-and _ _ (fails-not wide) (fails-zero busy)
 
+pub range-fails : (frequency : Frequency) → Fails (inRange frequency) (OutOfRange frequency)
+unfolding inRange
+range-fails frequency = fails-and _ _ (fails-le 190 (frequency .khz)) (fails-le (frequency .khz) 350)
+
 pub sound-tests : (rec : Record) → Tests (not (sound rec)) (Breaks rec)
 unfolding sound resetTime
 sound-tests rec =
     tests-fails (sound rec)
     (fails-and _ _ (fails-lt (rec .shift) 80)
     (fails-and _ _ (off-fails (rec .counter))
-    (fails-and _ _ (fails-le (rec .busy) resetTime) (half-fails (rec .wide) (rec .busy) (rec .half)))))
+    (fails-and _ _ (fails-le (rec .busy) resetTime)
+    (fails-and _ _ (range-fails (rec .frequency)) (half-fails (rec .wide) (rec .busy) (rec .half))))))
 
 pub whole-fails : (mem : List ℕ) → Fails (whole mem) (NotLong mem)
 unfolding whole

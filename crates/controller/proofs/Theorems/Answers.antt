@@ -183,7 +183,7 @@ reset-number : (rec : Record) (mem : List ℕ) → numbered (resetDecided rec me
 unfolding resetDecided
 reset-number rec mem = go (whole mem)
   where
-    go : (w : Bool) → numbered (cond w (record { answer = Done; byte = 0; rec = resetRecord; effect = Blank }) (refused NotWhole rec)) ≡ cond (not w) 2 0
+    go : (w : Bool) → numbered (cond w (record { answer = Done; byte = 0; rec = resetRecord (rec .frequency); effect = Blank }) (refused NotWhole rec)) ≡ cond (not w) 2 0
     go true = refl
     go false = refl
 

@@ -11,6 +11,7 @@ use lib.Seq.{getD-set-same}
 use borrow.Author.Tests.{eq-eqb}
 use Rattle.controller.proofs.Laws.Cells.{place-below}
 use Rattle.controller.proofs.Laws.Memory.{blanked-length, performed-length}
+use Rattle.controller.proofs.Laws.Oscillator.{fitted-in, range-of}
 use Rattle.controller.proofs.Laws.Taken.{taken-narrow, taken-wide}
 use Rattle.controller.proofs.Theorems.Sound.{reset-sound, transfer-keeps-sound}
 use Rattle.controller.proofs.Laws.Record.{sound-counter, waited-over}
@@ -19,6 +20,7 @@ use Rattle.controller.specs.declared.cells.Counter.the-variants.{Display
 use Rattle.controller.specs.declared.answers.Answer.the-variants.{Unsound, BadTransfer}
 use Rattle.controller.specs.declared.decision.Decision.{Decision}
 use Rattle.controller.specs.declared.decision.Effect.the-variants.{Keep}
+use Rattle.controller.specs.declared.oscillator.Frequency.{Frequency}
 use Rattle.controller.specs.declared.«record».Half.the-variants.{Empty, InstructionWrite, DataWrite}
 use Rattle.controller.specs.declared.«record».Record.{Record}
 use Rattle.controller.specs.Bus.{decided, ordered, resetDecided, whole, badTransfer, mustWait}
@@ -29,6 +31,7 @@ use Rattle.controller.specs.Decision.{blanked, performed, done, refused}
 use Rattle.controller.specs.Execute.{shortTime, longTime, statusOf, completed, executed, addressed, carried, written, readOut, homed}
 use Rattle.controller.specs.Halves.{accepted, narrow, begun, firstHalf, firstTold, secondHalf, crossed}
 use Rattle.controller.specs.Instruction.{decoded, bit}
+use Rattle.controller.specs.Oscillator.{fitted, inRange, older, timeAt}
 use Rattle.controller.specs.Record.{resetRecord, resetTime, sound, halfSound, waited, busyOver, withHalf}
 use Rattle.controller.specs.declared.sent.Sent.{Sent}
 use Rattle.controller.specs.Rules.{Comes, Wide, atWidth, beside, neighbour}
@@ -38,18 +41,27 @@ use Rattle.controller.proofs.Theorems.Rules.{data-rules}
 use Rattle.controller.specs.Runs.{State, Heard, decidedOf, after, toldOf, ran, heard}
 
 -- what reset leaves
-reset-state : (rec : Record) (mem : List ℕ) → length mem ≡ 144 → afterReset rec mem ≡ record { rec = resetRecord; mem = blanked mem }
+reset-state : (rec : Record) (mem : List ℕ) → length mem ≡ 144 → afterReset rec mem ≡ record { rec = resetRecord (rec .frequency); mem = blanked mem }
 unfolding resetDecided performed whole
 reset-state rec mem long = rw (eq-eqb (length mem) 144 long)
+
+-- where 250 kHz is fitted, reset is as from 250 kHz
+older-fits : inRange older ≡ true
+older-fits = range-of older (omega arith) (omega arith)
+
+reset-at : (frequency : Frequency) → fitted frequency ≡ older → resetRecord frequency ≡ resetRecord older
+unfolding resetRecord
+reset-at frequency is = rw (is, fitted-in older older-fits)
 
 pub p1 : P1
 unfolding resetRecord resetTime
 p1 rec mem long =
     let state = reset-state rec mem long in
-    let wide : Wide resetRecord (blanked mem) = record { sound = reset-sound; whole = blanked-length mem long; wide = refl } in
-    let told : (wait : ℕ) → Comes (decidedOf (afterReset rec mem) (statusRead wait)) 0 (cond (ltb 0 (10000 - wait)) 0x80 0 + 0) (10000 - wait) =
-    λ wait. subst (λ (s : State). Comes (decidedOf s (statusRead wait)) 0 (cond (ltb 0 (10000 - wait)) 0x80 0 + 0) (10000 - wait)) (sym state)
-    (data-rules .status resetRecord (blanked mem) wait wide .byte 0 (refl, omega arith)) in
+    let fresh : Record = resetRecord (rec .frequency) in
+    let wide : Wide fresh (blanked mem) = record { sound = reset-sound (rec .frequency); whole = blanked-length mem long; wide = refl } in
+    let told : (wait : ℕ) → Comes fresh (decidedOf (afterReset rec mem) (statusRead wait)) 0 (cond (ltb 0 (10000 - wait)) 0x80 0 + 0) (10000 - wait) =
+    λ wait. subst (λ (s : State). Comes fresh (decidedOf s (statusRead wait)) 0 (cond (ltb 0 (10000 - wait)) 0x80 0 + 0) (10000 - wait)) (sym state)
+    (data-rules .status fresh (blanked mem) wait wide .byte 0 (refl, omega arith)) in
     ((told 9999 .answer, told 9999 .byte), (told 10000 .answer, told 10000 .byte))
 
 -- the counter's step, at either width
@@ -110,7 +122,7 @@ pub p9 : P9
 unfolding badTransfer narrow secondHalf completed executed decoded bit crossed
 p9 rec mem wait w =
     taken-narrow rec mem (InstructionWrite 0) 0 0x30 wait w refl
-    ∙ ap (λ (r : Record). done longTime Keep (homed (withHalf Empty r))) (sym (waited-over wait rec (w .over)))
+    ∙ ap (λ (r : Record). done (longTime (rec .frequency)) Keep (homed (withHalf Empty r))) (sym (waited-over wait rec (w .over)))
 
 -- a stored byte is there
 stored : (mem : List ℕ) (rec : Record) (byte : ℕ) → length mem ≡ 144 → sound rec ≡ true → getD (set mem (placeOf (rec .counter)) byte) (placeOf (rec .counter)) 0 ≡ byte
@@ -189,5 +201,7 @@ heard-open s (t ∷ ts) long =
     ∙ ap (λ (l : List Heard). toldOf d ∷ l) (heard-open (after s d) ts (performed-length (d .effect) (s .mem) long))
 
 pub p11 : P11
-unfolding openHeard openly ordered waited sound halfSound onCell resetRecord resetTime badTransfer mustWait accepted begun completed statusOf addressOf addOfCell executed decoded bit written carried stepped wrapped placeOf readOut shortTime performed
-p11 rec mem long = ap (λ (s : State). heard s sentIn11) (reset-state rec mem long) ∙ heard-open _ sentIn11 (blanked-length mem long)
+unfolding openHeard openly ordered waited sound halfSound onCell resetRecord resetTime badTransfer mustWait accepted begun completed statusOf addressOf addOfCell executed decoded bit written carried stepped wrapped placeOf readOut shortTime timeAt inRange fitted performed
+p11 rec mem long older-one =
+    ap (λ (s : State). heard s sentIn11) (reset-state rec mem long ∙ ap (λ (r : Record). record { rec = r; mem = blanked mem }) (reset-at (rec .frequency) older-one))
+    ∙ heard-open _ sentIn11 (blanked-length mem long)

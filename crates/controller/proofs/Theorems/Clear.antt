@@ -18,19 +18,20 @@ use Rattle.controller.specs.declared.«record».Record.{Record}
 use Rattle.controller.specs.Bus.{badTransfer, decided}
 use Rattle.controller.specs.Cases.{Waits, taking}
 use Rattle.controller.specs.Halves.{highHalf}
+use Rattle.controller.specs.Oscillator.{timeAt}
 use Rattle.controller.specs.Record.{sound}
 use Rattle.controller.specs.Rules.{ClearRunsRight, atWidth, beside, neighbour}
 
 -- what the next data write needs of the record that Clear leaves
-record Cleared (rec : Record) : Type 0 where
+record Cleared (before rec : Record) : Type 0 where
   sound : sound rec ≡ true
   counter : rec .counter ≡ Display 0
   id : rec .entry .id ≡ true
-  busy : rec .busy ≡ 1640
+  busy : rec .busy ≡ timeAt 1640 (before .frequency)
   half : rec .half ≡ Empty
 
 clear-leaves : (wide : Bool) (rec : Record) (mem : List ℕ) (wait later : ℕ) → Waits rec mem wide Empty wait
-    → Cleared (taking wide rec mem 0 0x01 wait later .rec)
+    → Cleared rec (taking wide rec mem 0 0x01 wait later .rec)
 unfolding badTransfer
 clear-leaves true rec mem wait later w =
     let rule = clears rec mem 0x01 wait w (omega arith) (omega arith) in

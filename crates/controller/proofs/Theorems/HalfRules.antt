@@ -10,7 +10,7 @@ use Rattle.controller.proofs.Laws.Rows.{bad-tests, early-tests, half-af
 use Rattle.controller.proofs.Laws.Taken.{accepted-narrow, taken}
 use Rattle.controller.proofs.Laws.Tests.{tests-false}
 use Rattle.controller.proofs.Theorems.Halves.{Good, executed-byte, good-is, instruction, reading, status, writing}
-use Rattle.controller.proofs.Theorems.Rules.{addresses-is, status-byte, waits-busy, waits-control, waits-entry, waits-function, waits-place}
+use Rattle.controller.proofs.Theorems.Rules.{addresses-is, status-byte, waits-busy, waits-control, waits-entry, waits-frequency, waits-function, waits-place}
 use Rattle.controller.specs.declared.answers.Answer.{Answer}
 use Rattle.controller.specs.declared.answers.Answer.the-variants.{FirstHalf}
 use Rattle.controller.specs.declared.decision.Decision.{Decision}
@@ -77,6 +77,7 @@ module _ (rec : Record) (mem : List ℕ) (wait : ℕ) where
         half = is;
         returned = refl;
         busy = waits-busy wait rec;
+        frequency = waits-frequency wait rec;
         function = function-kept wait rec half;
         control = control-kept wait rec half;
         entry = entry-kept wait rec half;
@@ -169,7 +170,7 @@ unfolding narrow secondHalf completed crossed badTransfer performed
 status-rule rec mem taken wait n is =
     subst (EndsStatus rec mem taken wait) (sym (taken-second rec mem 2 0x00 wait n refl (StatusRead taken) is refl))
     (record {
-      comes = record { answer = refl; byte = refl; busy = waits-busy wait rec; half = refl };
+      comes = record { answer = refl; byte = refl; busy = waits-busy wait rec; frequency = waits-frequency wait rec; half = refl };
       function = function-kept wait rec Empty;
       control = control-kept wait rec Empty;
       entry = entry-kept wait rec Empty;

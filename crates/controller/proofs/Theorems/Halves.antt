@@ -10,7 +10,7 @@ use lib.Dec.{eqb, ltb, leb}
 use borrow.Author.Tests.{eqb-true, eqb-false, le-leb, ltb-false}
 use Rattle.controller.proofs.Laws.Halves.{high-of, whole-of, without}
 use Rattle.controller.proofs.Laws.Instruction.{decoded-elim}
-use Rattle.controller.proofs.Laws.Record.{sound-busy, sound-counter, sound-of, sound-shift}
+use Rattle.controller.proofs.Laws.Record.{sound-busy, sound-counter, sound-frequency, sound-of, sound-shift}
 use Rattle.controller.proofs.Laws.Rows.{bad-tests}
 use Rattle.controller.proofs.Laws.Taken.{taken-narrow, taken-wide}
 use Rattle.controller.proofs.Laws.Tests.{tests-false}
@@ -78,7 +78,7 @@ completed-alike mem (Write byte) wide rec =
     record {
       answer = refl;
       effect = refl;
-      rec = ap (λ (r : Record). atWidth true (withBusy shortTime (withRegister byte false r))) (carried-alike (rec .counter) wide (movedOn rec));
+      rec = ap (λ (r : Record). atWidth true (withBusy (shortTime (rec .frequency)) (withRegister byte false r))) (carried-alike (rec .counter) wide (movedOn rec));
     }
 completed-alike mem (Status byte) wide rec = record { answer = refl; effect = refl; rec = refl }
 completed-alike mem (Read byte) wide rec = record { answer = refl; effect = refl; rec = refl }
@@ -88,7 +88,8 @@ pub wide-waits : (rec : Record) (mem : List ℕ) (wait : ℕ) → Waits rec mem 
 unfolding halfSound
 wide-waits rec mem wait w =
     record {
-      sound = sound-of (atWidth true rec) (sound-shift rec (w .sound)) (sound-counter rec (w .sound)) (sound-busy rec (w .sound)) (rw (w .holds) refl);
+      sound = sound-of (atWidth true rec) (sound-shift rec (w .sound)) (sound-counter rec (w .sound)) (sound-busy rec (w .sound))
+          (sound-frequency rec (w .sound)) (rw (w .holds) refl);
       whole = w .whole;
       width = refl;
       holds = w .holds;

@@ -28,7 +28,7 @@ pub one-line-length : OneLineLength
 one-line-length n a b is also = one _ a b is also
 
 pub one-short-time : OneShortTime
-one-short-time a b is also = one _ a b is also
+one-short-time frequency a b is also = one _ a b is also
 
 pub one-long-time : OneLongTime
-one-long-time a b is also = one _ a b is also
+one-long-time frequency a b is also = one _ a b is also

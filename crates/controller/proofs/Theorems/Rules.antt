@@ -103,7 +103,7 @@ unfolding executed shortTime performed
 does-nothing rec mem byte wait w over under =
     rule DoesNothing _ rec mem byte wait w (is-nothing byte under)
     (record {
-      comes = record { answer = refl; byte = refl; busy = refl; half = w .holds };
+      comes = record { answer = refl; byte = refl; busy = refl; frequency = refl; half = w .holds };
       function = record { wide = refl; n = refl; f = refl };
       control = record { d = refl; c = refl; b = refl };
       entry = record { id = refl; s = refl };
@@ -138,11 +138,11 @@ blanked-cells mem place =
 
 -- what Clear and Home leave of the record, whatever becomes of the memory
 homes : (rec : Record) (effect : Effect) (entry : Entry) → rec .half ≡ Empty
-    → Homes rec (done longTime effect (withEntry entry (homed (busyOver rec))))
+    → Homes rec (done (longTime (rec .frequency)) effect (withEntry entry (homed (busyOver rec))))
 unfolding longTime
 homes rec effect entry none =
     record {
-      comes = record { answer = refl; byte = refl; busy = refl; half = none };
+      comes = record { answer = refl; byte = refl; busy = refl; frequency = refl; half = none };
       function = record { wide = refl; n = refl; f = refl };
       control = record { d = refl; c = refl; b = refl };
       shift = refl;
@@ -177,7 +177,7 @@ unfolding executed shortTime performed bit
 sets-entry rec mem byte wait w over under =
     rule SetsEntry _ rec mem byte wait w (is-entry byte over under)
     (record {
-      comes = record { answer = refl; byte = refl; busy = refl; half = w .holds };
+      comes = record { answer = refl; byte = refl; busy = refl; frequency = refl; half = w .holds };
       function = record { wide = refl; n = refl; f = refl };
       control = record { d = refl; c = refl; b = refl };
       id = refl;
@@ -191,7 +191,7 @@ unfolding executed shortTime performed bit
 sets-control rec mem byte wait w over under =
     rule SetsControl _ rec mem byte wait w (is-control byte over under)
     (record {
-      comes = record { answer = refl; byte = refl; busy = refl; half = w .holds };
+      comes = record { answer = refl; byte = refl; busy = refl; frequency = refl; half = w .holds };
       function = record { wide = refl; n = refl; f = refl };
       d-bit = refl;
       c-bit = refl;
@@ -206,7 +206,7 @@ unfolding executed shortTime performed bit
 sets-function rec mem byte wait w over under =
     rule SetsFunction _ rec mem byte wait w (is-function byte over under)
     (record {
-      comes = record { answer = refl; byte = refl; busy = refl; half = w .holds };
+      comes = record { answer = refl; byte = refl; busy = refl; frequency = refl; half = w .holds };
       wide = refl;
       n = refl;
       f = refl;
@@ -241,7 +241,7 @@ unfolding cursorAt shortTime performed byteUnder placeOf
 moved rec mem byte next (Display cell) none is goes =
     subst (λ (x : Counter). MovesCounter rec mem byte (changed (cursorAt mem x (busyOver rec)))) (sym is)
     (record {
-      comes = record { answer = refl; byte = refl; busy = refl; half = none };
+      comes = record { answer = refl; byte = refl; busy = refl; frequency = refl; half = none };
       function = record { wide = refl; n = refl; f = refl };
       control = record { d = refl; c = refl; b = refl };
       entry = record { id = refl; s = refl };
@@ -253,7 +253,7 @@ moved rec mem byte next (Display cell) none is goes =
 moved rec mem byte next (Pattern cell) none is goes =
     subst (λ (x : Counter). MovesCounter rec mem byte (changed (cursorAt mem x (busyOver rec)))) (sym is)
     (record {
-      comes = record { answer = refl; byte = refl; busy = refl; half = none };
+      comes = record { answer = refl; byte = refl; busy = refl; frequency = refl; half = none };
       function = record { wide = refl; n = refl; f = refl };
       control = record { d = refl; c = refl; b = refl };
       entry = record { id = refl; s = refl };
@@ -274,7 +274,7 @@ unfolding executed shortTime performed bit
 shifts-display rec mem byte wait w over under =
     rule ShiftsDisplay _ rec mem byte wait w (is-shift byte over under)
     (record {
-      comes = record { answer = refl; byte = refl; busy = refl; half = w .holds };
+      comes = record { answer = refl; byte = refl; busy = refl; frequency = refl; half = w .holds };
       function = record { wide = refl; n = refl; f = refl };
       control = record { d = refl; c = refl; b = refl };
       entry = record { id = refl; s = refl };
@@ -291,7 +291,7 @@ goes : (to : Counter) (place : ℕ) (rec : Record) (mem : List ℕ) → rec .hal
 unfolding shortTime performed byteUnder
 goes to place rec mem none at =
     record {
-      comes = record { answer = refl; byte = refl; busy = refl; half = none };
+      comes = record { answer = refl; byte = refl; busy = refl; frequency = refl; half = none };
       function = record { wide = refl; n = refl; f = refl };
       control = record { d = refl; c = refl; b = refl };
       entry = record { id = refl; s = refl };
@@ -335,7 +335,7 @@ lacks : (rec : Record) (mem : List ℕ) → rec .half ≡ Empty → LacksCell re
 unfolding performed
 lacks rec mem none =
     record {
-      comes = record { answer = refl; byte = refl; busy = refl; half = none };
+      comes = record { answer = refl; byte = refl; busy = refl; frequency = refl; half = none };
       function = record { wide = refl; n = refl; f = refl };
       control = record { d = refl; c = refl; b = refl };
       entry = record { id = refl; s = refl };
@@ -403,7 +403,14 @@ unfolding badTransfer begun completed written shortTime performed
 writes-data rec mem byte wait w =
     subst (WritesData rec mem byte) (sym (taken-wide rec mem Empty 1 byte wait w refl))
     (record {
-      comes = record { answer = refl; byte = refl; busy = refl; half = keeps (λ r. r .half) (λ _. refl) ∙ w .holds };
+      comes =
+          record {
+            answer = refl;
+            byte = refl;
+            busy = refl;
+            frequency = keeps (λ r. r .frequency) (λ _. refl);
+            half = keeps (λ r. r .half) (λ _. refl) ∙ w .holds;
+          };
       function = record { wide = keeps (λ r. r .wide) (λ _. refl); n = keeps (λ r. r .function .n) (λ _. refl); f = keeps (λ r. r .function .f) (λ _. refl) };
       control = record { d = keeps (λ r. r .control .d) (λ _. refl); c = keeps (λ r. r .control .c) (λ _. refl); b = keeps (λ r. r .control .b) (λ _. refl) };
       entry = record { id = keeps (λ r. r .entry .id) (λ _. refl); s = keeps (λ r. r .entry .s) (λ _. refl) };
@@ -430,7 +437,7 @@ unfolding badTransfer begun completed readOut shortTime performed byteUnder
 reads-data rec mem wait w =
     subst (ReadsData rec mem) (sym (taken-wide rec mem Empty 3 0x00 wait w refl))
     (record {
-      comes = record { answer = read-number (rec .fresh); byte = refl; busy = refl; half = w .holds };
+      comes = record { answer = read-number (rec .fresh); byte = refl; busy = refl; frequency = refl; half = w .holds };
       function = record { wide = refl; n = refl; f = refl };
       control = record { d = refl; c = refl; b = refl };
       entry = record { id = refl; s = refl };
@@ -481,6 +488,9 @@ module _ (wait : ℕ) (rec : Record) where
         fresh = waited-keeps (λ r. r .fresh) wait rec refl (λ _. refl);
       }
 
+  pub waits-frequency : waited wait rec .frequency ≡ rec .frequency
+  waits-frequency = waited-keeps (λ r. r .frequency) wait rec refl (λ _. refl)
+
   pub waits-busy : waited wait rec .busy ≡ rec .busy - wait
   unfolding waited
   waits-busy =
@@ -512,6 +522,7 @@ reads-status rec mem wait w =
                 status-byte (rec .function .n) (rec .counter) (waited wait rec) (rec .busy - wait) address (waits-function wait rec .n)
                 (waits-place wait rec .counter) (waits-busy wait rec) (addresses-is (rec .function .n) (rec .counter) address names);
             busy = waits-busy wait rec;
+            frequency = waits-frequency wait rec;
             half = waited-keeps (λ r. r .half) wait rec refl (λ _. refl) ∙ wide-none (rec .wide) (rec .busy) (rec .half) (w .wide) (sound-half rec (w .sound));
           };
       function = waits-function wait rec;

@@ -6,6 +6,8 @@ use native.Mathlib.Omega.{arith}
 use Rattle.controller.proofs.Laws.Cells.{display-on}
 use Rattle.controller.proofs.Laws.Completed.{idle-sound}
 use Rattle.controller.proofs.Laws.Kept.{decided-kept, decided-fits, reset-fits}
+use Rattle.controller.proofs.Laws.Oscillator.{fitted-range}
+use Rattle.controller.specs.declared.oscillator.Frequency.{Frequency}
 use Rattle.controller.specs.Bus.{resetDecided}
 use Rattle.controller.specs.Record.{resetRecord, sound}
 use Rattle.controller.specs.Theorems.{TransferKeepsSound, ResetMakesSound, EffectsFit}
@@ -13,13 +15,15 @@ use Rattle.controller.specs.Theorems.{TransferKeepsSound, ResetMakesSoun
 pub transfer-keeps-sound : TransferKeepsSound
 transfer-keeps-sound rec mem kind byte wait below s = decided-kept rec mem kind byte wait below s .sound
 
-pub reset-sound : sound resetRecord ≡ true
+pub reset-sound : (frequency : Frequency) → sound (resetRecord frequency) ≡ true
 unfolding resetRecord
-reset-sound = idle-sound resetRecord (record { shift = omega arith; counter = display-on 0 (omega arith); half = refl }) (omega arith)
+reset-sound frequency =
+    idle-sound (resetRecord frequency)
+    (record { shift = omega arith; counter = display-on 0 (omega arith); frequency = fitted-range frequency; half = refl }) (omega arith)
 
 pub reset-makes-sound : ResetMakesSound
 unfolding resetDecided
-reset-makes-sound rec mem w = rw w reset-sound
+reset-makes-sound rec mem w = rw w (reset-sound (rec .frequency))
 
 pub effects-fit : EffectsFit
 effects-fit rec mem = (decided-fits rec mem, reset-fits rec mem)

@@ -68,7 +68,7 @@ step-requires c κs = search needs
 
 cursor-to-requires : tie.Need-cursor-to-requires
 cursor-to-requires c κs =
-    (c .before .before .before .before .before .pre .whole, ap onCell (c .step .ensures) ∙ stepped-on _ _)
+    (c .before .before .before .before .before .before .pre .whole, ap onCell (c .step .ensures) ∙ stepped-on _ _)
 
 change-requires-4 : tie.Need-change-requires-4
 change-requires-4 c κs = search needs
@@ -102,7 +102,7 @@ place-on-requires c κs = search needs
 
 load-register-requires : tie.Need-load-register-requires
 load-register-requires c κs = (
-  c .before .before .before .before .before .before .pre .whole,
+  c .before .before .before .before .before .before .before .pre .whole,
   ap (λ (r : Record). onCell (r .counter)) (c .place-on .ensures) ∙ ap (λ (cell : ℕ). onCell (Pattern cell)) (c .before .cell-of-acg .ensures) ∙ acg-on _,
 )
 
@@ -117,7 +117,7 @@ cell-of-add-requires c κs = search needs
 
 go-to-requires : tie.Need-go-to-requires
 go-to-requires c κs =
-    (c .before .before .before .before .before .pre .whole, rw (c .cell-of-add .ensures) (named-within _ _))
+    (c .before .before .before .before .before .before .pre .whole, rw (c .cell-of-add .ensures) (named-within _ _))
 
 returns : tie.Need-returns
 unfolding executed

@@ -10,7 +10,7 @@ step-requires c κs = search needs
 
 returns : tie.Need-returns
 unfolding stepped
-returns c = simp (c .before .before .before .step .ensures)
+returns c = simp (c .before .before .before .before .step .ensures)
 
 pub move-on-spec : {M : Type 1} → statement M
 move-on-spec = tie.close (tie.spec step-requires returns)

@@ -15,7 +15,7 @@ move-on-requires c κs = search needs
 
 load-register-requires : tie.Need-load-register-requires
 load-register-requires c κs =
-    (c .before .before .pre .whole, ap (λ (r : Record). onCell (r .counter)) (c .move-on .ensures) ∙ stepped-on _ _)
+    (c .before .before .before .pre .whole, ap (λ (r : Record). onCell (r .counter)) (c .move-on .ensures) ∙ stepped-on _ _)
 
 short-time-requires : tie.Need-short-time-requires
 short-time-requires c κs = search needs

@@ -9,7 +9,7 @@ move-on-requires : tie.Need-move-on-requires
 move-on-requires c κs = search needs
 
 carry-requires : tie.Need-carry-requires
-carry-requires c κs = rw (c .move-on .ensures) (c .before .pre .1)
+carry-requires c κs = rw (c .move-on .ensures) (c .before .before .pre .1)
 
 short-time-requires : tie.Need-short-time-requires
 short-time-requires c κs = search needs
