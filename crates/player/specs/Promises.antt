@@ -3,6 +3,7 @@
 use mathlib.Core.List.{List}
 use mathlib.Core.Path.{_≡_}
 use Prim.Native.Nat.{ℕ}
+use Rattle.controller.specs.declared.oscillator.Frequency.{Frequency}
 use Rattle.lines.specs.declared.writer.Written.{Written}
 use Rattle.lines.specs.Writing.{Writes}
 use Rattle.player.specs.declared.through.Standing.{Standing}
@@ -10,9 +11,9 @@ use Rattle.player.specs.Report.{playing}
 use Rattle.player.specs.Standing.{standing}
 
 -- `play`: the answer, the report's length and every byte of the buffer.
-abbrev pub PlayPromise : List ℕ → List ℕ → Written → List ℕ → Type 0
-PlayPromise text out returned after = Writes (playing text out) out returned after
+abbrev pub PlayPromise : List ℕ → Frequency → List ℕ → Written → List ℕ → Type 0
+PlayPromise text frequency out returned after = Writes (playing frequency text out) out returned after
 
 -- `play_through`: how at most so many lines of the text leave the bench.
-abbrev pub PlayThroughPromise : List ℕ → ℕ → Standing → Type 0
-PlayThroughPromise text most returned = returned ≡ standing text most
+abbrev pub PlayThroughPromise : List ℕ → Frequency → ℕ → Standing → Type 0
+PlayThroughPromise text frequency most returned = returned ≡ standing frequency text most

@@ -5,6 +5,7 @@ use mathlib.Core.List.{List, [], _∷_, _++_}
 use Prim.Native.Nat.{ℕ, _+_, _*_}
 use lib.ListN.{length, replicate}
 use Rattle.controller.specs.declared.answers.Answer.{Answer}
+use Rattle.controller.specs.declared.oscillator.Frequency.{Frequency}
 use Rattle.controller.specs.Answers.{isDone, numberOf}
 use Rattle.controller.specs.Record.{resetRecord}
 use Rattle.controller.specs.Runs.{State, Heard, heard, ran}
@@ -31,18 +32,18 @@ rowsOf number state session =
     rowsFrom number (heard state (session .sent))
     ++ lastRow (session .end) (number + length (session .sent)) (ran state (session .sent) .rec .busy)
 
--- A controller after reset, with pattern cells 00h.
-abbrev pub start : State
-start = record { rec = resetRecord; mem = replicate 80 0x20 ++ replicate 64 0x00 }
+-- A controller with this oscillator after reset, with pattern cells 00h.
+abbrev pub start : Frequency → State
+start frequency = record { rec = resetRecord frequency; mem = replicate 80 0x20 ++ replicate 64 0x00 }
 
 -- The whole report of a session's text: the header, then the rows, numbered from 1.
-unfoldable pub report : List ℕ → List ℕ
-report text = header ++ rowsOf 1 start (sessionOf text)
+unfoldable pub report : Frequency → List ℕ → List ℕ
+report frequency text = header ++ rowsOf 1 (start frequency) (sessionOf text)
 
 -- A buffer of this size always serves: six bytes for each byte of the text, and 62 for the header and a last row.
 abbrev pub reportSize : List ℕ → ℕ
 reportSize text = 6 * length text + 62
 
 -- Playing a session's text: 11 where the buffer is shorter than that, and else the report.
-unfoldable pub playing : List ℕ → List ℕ → Writing
-playing text out = wanting (reportSize text) (report text) out
+unfoldable pub playing : Frequency → List ℕ → List ℕ → Writing
+playing frequency text out = wanting (reportSize text) (report frequency text) out

@@ -7,6 +7,7 @@ use lib.Dec.{eqb}
 use lib.ListN.{length}
 use Rattle.controller.specs.declared.answers.Answer.{Answer}
 use Rattle.controller.specs.declared.answers.Answer.the-variants.{Done}
+use Rattle.controller.specs.declared.oscillator.Frequency.{Frequency}
 use Rattle.controller.specs.declared.sent.Sent.{Sent}
 use Rattle.controller.specs.Answers.{isRefusal}
 use Rattle.controller.specs.Runs.{State, decidedOf, after, ran}
@@ -61,5 +62,5 @@ leaving number from before state session =
     (countingAll before number (answersTo state (session .sent)))
 
 -- How at most so many lines of a text leave the bench: played from the start, the lines counted from 1 and the bytes from 0.
-unfoldable pub standing : List ℕ → ℕ → Standing
-standing text most = leaving 1 0 noRefusal start (readUpTo most text)
+unfoldable pub standing : Frequency → List ℕ → ℕ → Standing
+standing frequency text most = leaving 1 0 noRefusal (start frequency) (readUpTo most text)

@@ -10,8 +10,10 @@ use Rattle.controller.specs.declared.answers.Answer.{Answer}
 use Rattle.controller.specs.declared.answers.Answer.the-variants.{Done}
 use Rattle.controller.specs.Answers.{isRefusal, numberOf, Row, Tells}
 use Rattle.controller.specs.Record.{sound}
+use Rattle.controller.specs.declared.oscillator.Frequency.{Frequency}
 use Rattle.controller.specs.declared.sent.Sent.{Sent}
 use Rattle.controller.specs.Runs.{State, Heard, decidedOf, heard, ran}
+use Rattle.controller.specs.Times.{WithinRange}
 use Rattle.lines.specs.declared.writer.Written.{Written}
 use Rattle.lines.specs.Line.{linesOf}
 use Rattle.lines.specs.ReportText.{header, row}
@@ -26,7 +28,9 @@ use Rattle.player.specs.Standing.{answersTo, countingAll, noRefusal, sta
 
 -- The report of the lines of transfers is the header and a row for each, with what a controller tells that starts from reset.
 abbrev pub ReportTells : Type 0
-ReportTells = (ts : List Sent) → AllSayable ts → report (linesOf ts) ≡ header ++ rowsFrom 1 (heard start ts)
+ReportTells =
+    (frequency : Frequency) (ts : List Sent) → AllSayable ts
+    → report frequency (linesOf ts) ≡ header ++ rowsFrom 1 (heard (start frequency) ts)
 
 -- A session ends with its text; or the text is no session, and it ends at a bad line with one of 16 to 19.
 abbrev pub SessionEnds : Type 0
@@ -36,7 +40,8 @@ SessionEnds =
 
 -- A buffer of six bytes for each byte of the text and 62 more always serves, for any text that a memory can hold.
 abbrev pub ReportFits : Type 0
-ReportFits = (text : List ℕ) → length text < 2 ^ 63 → length (report text) ≤ reportSize text
+ReportFits =
+    (frequency : Frequency) (text : List ℕ) → length text < 2 ^ 63 → length (report frequency text) ≤ reportSize text
 
 -- The row of play: 11, where the buffer is shorter than that.
 unfoldable pub playRows : List ℕ → List ℕ → List Row
@@ -44,7 +49,8 @@ playRows text out = record { number = 11; applies = length out < 6 * length text
 
 -- 11 is given exactly there.
 abbrev pub PlayAnswers : Type 0
-PlayAnswers = (text out : List ℕ) → Tells (numberOf (playing text out .answer)) (playRows text out)
+PlayAnswers =
+    (frequency : Frequency) (text out : List ℕ) → Tells (numberOf (playing frequency text out .answer)) (playRows text out)
 
 -- So many lines reach the end of the text: it has fewer transfers, and what is after them is looked at too.
 abbrev pub Reaches : ℕ → List ℕ → Type 0
@@ -56,47 +62,59 @@ LongReaches = (text : List ℕ) (most : ℕ) → length text < most → Reaches 
 
 -- Each of 16 to 19 is given exactly where it is the first fault of the text's bad line, if so many lines reach its end.
 abbrev pub ThroughAnswers : Type 0
-ThroughAnswers = (text : List ℕ) (most : ℕ) → Reaches most text → Tells (numberOf (standing text most .answer)) (sessionRows text)
+ThroughAnswers =
+    (frequency : Frequency) (text : List ℕ) (most : ℕ) → Reaches most text
+    → Tells (numberOf (standing frequency text most .answer)) (sessionRows text)
 
 -- Lines of transfers, and as many asked for: they stand as they do alone, whatever is after them, a bad line too.
 abbrev pub MostStops : Type 0
 MostStops =
-    (ts : List Sent) (more : List ℕ) (most : ℕ) → AllSayable ts → Reaches most (linesOf ts)
-    → standing (linesOf ts ++ more) (length ts) ≡ standing (linesOf ts) most
+    (frequency : Frequency) (ts : List Sent) (more : List ℕ) (most : ℕ) → AllSayable ts → Reaches most (linesOf ts)
+    → standing frequency (linesOf ts ++ more) (length ts) ≡ standing frequency (linesOf ts) most
 
 -- Lines of transfers, and then something that no line starts: the bad line. Its row has its number, the reader's answer to it
 -- (`ReaderAnswers`), byte 00 and the busy as it stands, and ends the report; the bench stands as the transfers before it
 -- leave it, and `from` is where the bad line begins in the text.
-pub record BadLineTold (ts : List Sent) (more : List ℕ) (most : ℕ) : Type 0 where
-  pub row : report (linesOf ts ++ more)
+pub record BadLineTold (frequency : Frequency) (ts : List Sent) (more : List ℕ) (most : ℕ) : Type 0 where
+  pub row : report frequency (linesOf ts ++ more)
       ≡ header
-      ++ (rowsFrom 1 (heard start ts) ++ row (1 + length ts) (numberOf (lineOf more .answer)) 0x00 (ran start ts .rec .busy))
-  pub stands : standing (linesOf ts ++ more) most
-      ≡ stood (lineOf more .answer) (1 + length ts) (length (linesOf ts)) (ran start ts)
-      (countingAll noRefusal 1 (answersTo start ts))
-  pub there : drop (standing (linesOf ts ++ more) most .from) (linesOf ts ++ more) ≡ more
+      ++ (rowsFrom 1 (heard (start frequency) ts)
+      ++ row (1 + length ts) (numberOf (lineOf more .answer)) 0x00 (ran (start frequency) ts .rec .busy))
+  pub stands : standing frequency (linesOf ts ++ more) most
+      ≡ stood (lineOf more .answer) (1 + length ts) (length (linesOf ts)) (ran (start frequency) ts)
+      (countingAll noRefusal 1 (answersTo (start frequency) ts))
+  pub there : drop (standing frequency (linesOf ts ++ more) most .from) (linesOf ts ++ more) ≡ more
 
 -- So with every bad line, wherever it stands, if so many lines reach it.
 abbrev pub BadLineEnds : Type 0
 BadLineEnds =
-    (ts : List Sent) (more : List ℕ) (most : ℕ) → AllSayable ts → 0 < length more → (Starts more → ⊥) → length ts < most
-    → BadLineTold ts more most
+    (frequency : Frequency) (ts : List Sent) (more : List ℕ) (most : ℕ) → AllSayable ts → 0 < length more → (Starts more → ⊥)
+    → length ts < most → BadLineTold frequency ts more most
 
 -- No second answer fits.
 abbrev pub OnePlay : Type 0
 OnePlay =
-    (text out : List ℕ) (a b : Written) (x y : List ℕ)
-    → Writes (playing text out) out a x → Writes (playing text out) out b y → (a ≡ b) × (x ≡ y)
+    (frequency : Frequency) (text out : List ℕ) (a b : Written) (x y : List ℕ)
+    → Writes (playing frequency text out) out a x → Writes (playing frequency text out) out b y → (a ≡ b) × (x ≡ y)
 
 -- And two standings that both are what play_through promises are one.
 abbrev pub OneStanding : Type 0
-OneStanding = (text : List ℕ) (most : ℕ) (a b : Standing) → a ≡ standing text most → b ≡ standing text most → a ≡ b
+OneStanding =
+    (frequency : Frequency) (text : List ℕ) (most : ℕ) (a b : Standing)
+    → a ≡ standing frequency text most → b ≡ standing frequency text most → a ≡ b
 
 -- Every text leaves a sound record and a memory of 144 bytes, so that no picture of it and no transfer after it is answered 1
 -- or 2.
 abbrev pub StandingTold : Type 0
 StandingTold =
-    (text : List ℕ) (most : ℕ) → (sound (standing text most .rec) ≡ true) × (length (standing text most .memory) ≡ 144)
+    (frequency : Frequency) (text : List ℕ) (most : ℕ)
+    → (sound (standing frequency text most .rec) ≡ true) × (length (standing frequency text most .memory) ≡ 144)
+
+-- A frequency in range is the bench's to the end.
+abbrev pub FrequencyStays : Type 0
+FrequencyStays =
+    (frequency : Frequency) (text : List ℕ) (most : ℕ) → WithinRange frequency
+    → standing frequency text most .rec .frequency ≡ frequency
 
 -- The answers among which refusals are counted have the numbers that a report tells.
 abbrev pub AnswersHeard : Type 0
@@ -105,7 +123,9 @@ AnswersHeard =
 
 -- There are no refusals exactly where the first one's line is 0.
 abbrev pub NoneIsFirst : Type 0
-NoneIsFirst = (text : List ℕ) (most : ℕ) → (standing text most .refusals ≡ 0) ↔ (standing text most .first ≡ 0)
+NoneIsFirst =
+    (frequency : Frequency) (text : List ℕ) (most : ℕ)
+    → (standing frequency text most .refusals ≡ 0) ↔ (standing frequency text most .first ≡ 0)
 
 -- None of these answers is a refusal.
 unfoldable pub NoneRefused : List Answer → Type 0
@@ -115,8 +135,8 @@ NoneRefused (answer ∷ answers) = (isRefusal answer ≡ false) × NoneRefused a
 -- Where transfers that are played are not refused and the next one is, `first` is its line and `first_answer` its answer.
 abbrev pub FirstTold : Type 0
 FirstTold =
-    (text : List ℕ) (most : ℕ) (before : List Sent) (t : Sent) (later : List Sent)
+    (frequency : Frequency) (text : List ℕ) (most : ℕ) (before : List Sent) (t : Sent) (later : List Sent)
     → readUpTo most text .sent ≡ before ++ (t ∷ later)
-    → NoneRefused (answersTo start before) → isRefusal (decidedOf (ran start before) t .answer) ≡ true
-    → (standing text most .first ≡ 1 + length before)
-    × (standing text most .«first_answer» ≡ decidedOf (ran start before) t .answer)
+    → NoneRefused (answersTo (start frequency) before) → isRefusal (decidedOf (ran (start frequency) before) t .answer) ≡ true
+    → (standing frequency text most .first ≡ 1 + length before)
+    × (standing frequency text most .«first_answer» ≡ decidedOf (ran (start frequency) before) t .answer)

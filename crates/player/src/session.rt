@@ -7,6 +7,7 @@ use crate::tally::no_refusal;
 use crate::walk::Place;
 use crate::walk::walk;
 use controller::Answer;
+use controller::Frequency;
 use controller::after_reset;
 use controller::reset;
 use lines::Written;
@@ -22,9 +23,10 @@ fn is_short(text: usize, out: usize) -> bool
     (out - 62) / 6 < text
 }
 
-// The whole report of a session, into a buffer of at least six bytes for each byte of the text and 62 more.
-pub fn play(text: &[u8], out: &mut [u8]) -> Written
-    ensures { λ r. ⌜ PlayPromise (now (text .entry)) (now (out .entry)) r (now (out .exit)) ⌝ }
+// The whole report of a session, where this oscillator is fitted, into a buffer of at least six bytes for each byte of the text
+// and 62 more.
+pub fn play(text: &[u8], frequency: Frequency, out: &mut [u8]) -> Written
+    ensures { λ r. ⌜ PlayPromise (now (text .entry)) frequency (now (out .entry)) r (now (out .exit)) ⌝ }
 {
     if is_short(text.len(), out.len()) {
         return Written {
@@ -34,7 +36,7 @@ pub fn play(text: &[u8], out: &mut [u8]) -> Written
     }
     let head = write_header(out);
     let mut memory = [0u8; 144];
-    let begun = reset(after_reset(), &mut memory);
+    let begun = reset(after_reset(frequency), &mut memory);
     let rec = begun.rec;
     let start = Place {
         from: 0,

@@ -4,6 +4,7 @@ use crate::tally::no_refusal;
 use crate::walk::Place;
 use crate::walk::walk;
 use controller::Answer;
+use controller::Frequency;
 use controller::Record;
 use controller::after_reset;
 use controller::reset;
@@ -22,12 +23,12 @@ pub struct Standing {
     pub first_answer: Answer,
 }
 
-// At most so many of a text's transfers, sent to a controller after reset with pattern cells 00h.
-pub fn play_through(text: &[u8], most: u64) -> Standing
-    ensures { λ r. ⌜ PlayThroughPromise (now (text .entry)) most r ⌝ }
+// At most so many of a text's transfers, sent to a controller with this oscillator after reset, with pattern cells 00h.
+pub fn play_through(text: &[u8], frequency: Frequency, most: u64) -> Standing
+    ensures { λ r. ⌜ PlayThroughPromise (now (text .entry)) frequency most r ⌝ }
 {
     let mut memory = [0u8; 144];
-    let begun = reset(after_reset(), &mut memory);
+    let begun = reset(after_reset(frequency), &mut memory);
     let rec = begun.rec;
     let start = Place {
         from: 0,

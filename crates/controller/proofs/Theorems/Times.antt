@@ -31,10 +31,10 @@ use Rattle.controller.specs.Rows.{OutOfRange}
 use Rattle.controller.specs.Times.{WithinRange, LeastTime, TimeAt250, TimesAt270, TimeFalls, TimeOutside, ResetFrequency, TransferKeepsFrequency, OscillatorRules}
 
 -- a frequency in range is fitted, and for one out of range 250
-within-fitted : (frequency : Frequency) → WithinRange frequency → fitted frequency ≡ frequency
+pub within-fitted : (frequency : Frequency) → WithinRange frequency → fitted frequency ≡ frequency
 within-fitted frequency is = fitted-in frequency (range-of frequency (is .low) (is .high))
 
-outside-fitted : (frequency : Frequency) → OutOfRange frequency → fitted frequency ≡ older
+pub outside-fitted : (frequency : Frequency) → OutOfRange frequency → fitted frequency ≡ older
 outside-fitted frequency out = fitted-out frequency (fails-false (inRange frequency) (range-fails frequency) out)
 
 module _ (time : ℕ) (frequency : Frequency) (is : WithinRange frequency) where

@@ -2,7 +2,7 @@
 -- Assumes nothing.
 use mathlib.Core.Bool.{true, false}
 use mathlib.Core.List.{List, [], _++_, append-assoc}
-use mathlib.Core.Path.{_≡_, refl}
+use mathlib.Core.Path.{_≡_, refl, ap}
 use Prim.Native.Nat.{ℕ, suc, _+_, _<_}
 use native.Mathlib.Omega.{arith}
 use native.Mathlib.Nat.{add-zero}
@@ -15,12 +15,14 @@ use Rattle.controller.specs.declared.sent.Sent.{Sent}
 use Rattle.controller.specs.Runs.{State, decidedOf, after, toldOf, heard, ran}
 use Rattle.controller.proofs.Laws.Answers.{done-is}
 use Rattle.controller.specs.declared.decision.Outcome.{Outcome}
+use Rattle.controller.specs.declared.oscillator.Frequency.{Frequency}
 use Rattle.controller.specs.declared.«record».Record.{Record}
 use Rattle.controller.specs.Bus.{whole, resetDecided, Performs}
-use Rattle.controller.specs.Cells.{onCell}
 use Rattle.controller.specs.Decision.{performed, blanked}
-use Rattle.controller.specs.Record.{sound, resetRecord, resetTime, halfSound}
-use Rattle.controller.proofs.Theorems.Sound.{transfer-keeps-sound}
+use Rattle.controller.specs.Oscillator.{fitted}
+use Rattle.controller.specs.Record.{sound, resetRecord}
+use Rattle.controller.proofs.Laws.Oscillator.{fitted-in, fitted-range}
+use Rattle.controller.proofs.Theorems.Sound.{reset-sound, transfer-keeps-sound}
 use Rattle.lines.specs.Line.{line, linesOf}
 use Rattle.lines.specs.Reading.{lineOf}
 use Rattle.lines.specs.ReportText.{header, row}
@@ -83,15 +85,15 @@ counting-below tally line answer few =
     (λ taken. simp taken (omega arith))
 
 -- what a session starts from is sound
-pub start-sound : sound (start .rec) ≡ true
-unfolding sound resetRecord resetTime onCell halfSound
-start-sound = refl
+pub start-sound : (frequency : Frequency) → sound (start frequency .rec) ≡ true
+start-sound frequency = reset-sound frequency
 
 -- and a reset of 144 zeros makes it
-pub reset-starts : (rec : Record) {told : Outcome} {mem : List ℕ} → Performs (resetDecided rec (replicate 144 0)) (replicate 144 0) told mem
-    → record { rec = told .rec; mem = mem } ≡ start
-unfolding resetDecided whole performed blanked
-reset-starts rec {told} {mem} meets = simp (meets .told, meets .memory)
+pub reset-starts : (frequency : Frequency) (rec : Record) {told : Outcome} {mem : List ℕ} → rec ≡ resetRecord frequency
+    → Performs (resetDecided rec (replicate 144 0)) (replicate 144 0) told mem → record { rec = told .rec; mem = mem } ≡ start frequency
+unfolding resetDecided whole performed blanked resetRecord
+reset-starts frequency rec {told} {mem} is meets =
+    simp (meets .told, meets .memory, ap (λ (r : Record). r .frequency) is, fitted-in (fitted frequency) (fitted-range frequency))
 
 pub header-length : length header ≡ 20
 unfolding header

@@ -13,6 +13,7 @@ use lib.Seq.{sets, sets-eq, drop-drop, drop-length, take-all, length-sets}
 use Rattle.controller.specs.declared.answers.Answer.{Answer}
 use Rattle.controller.specs.declared.answers.Answer.the-variants.{Done}
 use Rattle.controller.specs.declared.decision.Outcome.{Outcome}
+use Rattle.controller.specs.declared.oscillator.Frequency.{Frequency}
 use Rattle.controller.specs.declared.«record».Record.{Record}
 use Rattle.controller.specs.declared.sent.Sent.{Sent}
 use Rattle.controller.specs.Answers.{isDone, numberOf}
@@ -235,24 +236,24 @@ report-begins text rec {out} enough same meets none =
     record { inside = omega arith; counted = omega arith; fewer = rw none (omega arith); enough = omega arith }
 
 -- the header, and after it the rows, are the whole report
-pub report-done : (text : List ℕ) (most : ℕ) (tally : Tally) {out out₁ : List ℕ} {head : Written} {rec : Record} {mem : List ℕ} (ended : Ended)
+pub report-done : (frequency : Frequency) (text : List ℕ) (most : ℕ) (tally : Tally) {out out₁ : List ℕ} {head : Written} {rec : Record} {mem : List ℕ} (ended : Ended)
     {mem′ out′ : List ℕ} → reportSize text ≤ length out → length text < 2 ^ 63 → length text ≤ most
-    → Writes (wanting 20 header out) out head out₁ → record { rec = rec; mem = mem } ≡ start
+    → Writes (wanting 20 header out) out head out₁ → record { rec = rec; mem = mem } ≡ start frequency
     → endedAt (ended .answer) (ended .place) mem′ out′
     ≡ walkedFrom true most text (record { from = 0; at = head .length; number = 1; rec = rec; tally = tally }) mem out₁
-    → (ended .place .at ≡ length (report text)) × (out′ ≡ onto (report text) out)
+    → (ended .place .at ≡ length (report frequency text)) × (out′ ≡ onto (report frequency text) out)
 unfolding report walked
-report-done text most tally {out} {out₁} {head} {rec} {mem} ended enough few reaches meets begins walks =
-    let fits = report-fits text few in
-    let all = rowsOf 1 start (sessionOf text) in
+report-done frequency text most tally {out} {out₁} {head} {rec} {mem} ended enough few reaches meets begins walks =
+    let fits = report-fits frequency text few in
+    let all = rowsOf 1 (start frequency) (sessionOf text) in
     let wrote = writes 20 header out (omega arith) meets in
     let own : rowsOf 1 (record { rec = rec; mem = mem }) (readUpTo most text) ≡ all =
     ap (rowsOf 1 (record { rec = rec; mem = mem })) (read-all most text reaches) ∙ ap (λ (s : State). rowsOf 1 s (sessionOf text)) begins in
-    let long : length (report text) ≡ length header + length all = length-append header all in
+    let long : length (report frequency text) ≡ length header + length all = length-append header all in
     let begun : out₁ ≡ sets out 0 header = wrote .1 ∙ sym (sets-onto header out (omega (arith, header-length))) in (
       ap (λ (w : Walked). w .at) walks ∙ omega (arith, wrote .0, ap length own),
       ap (λ (w : Walked). w .out) walks
           ∙ ap (sets out₁ (head .length)) own
           ∙ sets-next out 0 header all begun (omega (arith, wrote .0))
-          ∙ sets-onto (report text) out (omega arith),
+          ∙ sets-onto (report frequency text) out (omega arith),
     )

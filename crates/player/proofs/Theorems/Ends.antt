@@ -22,7 +22,7 @@ use Rattle.player.proofs.Theorems.Read.{read-reached}
 
 pub bad-line-ends : BadLineEnds
 unfolding report rowsOf lastRow standing leaving
-bad-line-ends ts more most can some none few =
+bad-line-ends frequency ts more most can some none few =
     let read = bad-ends ts more can some none in
     let other = fault-not-good (lineOf more .answer) (refuses more none) in
     let whole = read-reached most (linesOf ts ++ more) (omega (arith, ap (λ (s : Session). length (s .sent)) read)) in
@@ -41,5 +41,5 @@ session-ends text =
 
 pub through-answers : ThroughAnswers
 unfolding standing leaving
-through-answers text most reaches =
+through-answers frequency text most reaches =
     tells-as _ _ _ (ap (λ (s : Session). numberOf (s .end)) (read-reached most text reaches)) (session-answers text)

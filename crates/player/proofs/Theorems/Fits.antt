@@ -55,10 +55,10 @@ rows-fit (suc k) number state (byte ∷ rest) enough few is =
 
 pub report-fits : ReportFits
 unfolding report
-report-fits text few =
+report-fits frequency text few =
     omega (
       arith,
-      length-append header (rowsOf 1 start (sessionOf text)),
+      length-append header (rowsOf 1 (start frequency) (sessionOf text)),
       header-length,
-      rows-fit (length text) 1 start text (omega arith) (omega arith) start-sound,
+      rows-fit (length text) 1 (start frequency) text (omega arith) (omega arith) (start-sound frequency),
     )

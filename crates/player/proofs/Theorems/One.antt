@@ -7,7 +7,7 @@ use Rattle.player.specs.Theorems.{playRows, PlayAnswers, OnePlay}
 
 pub play-answers : PlayAnswers
 unfolding playing playRows wantingRows
-play-answers text out = text-answers (reportSize text) (report text) out
+play-answers frequency text out = text-answers (reportSize text) (report frequency text) out
 
 pub one-play : OnePlay
-one-play text out a b x y is also = one-writing (playing text out) out a b x y is also
+one-play frequency text out a b x y is also = one-writing (playing frequency text out) out a b x y is also

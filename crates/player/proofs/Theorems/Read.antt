@@ -25,7 +25,7 @@ use Rattle.player.specs.Theorems.{ReportTells, Reaches, LongReaches, Mos
 
 pub report-tells : ReportTells
 unfolding report rowsOf lastRow
-report-tells ts can = simp (lines-read ts can, append-nil)
+report-tells frequency ts can = simp (lines-read ts can, append-nil)
 
 -- so many lines reach the end of a text: all of it is read
 pub read-reached : (most : ℕ) (text : List ℕ) → Reaches most text → readUpTo most text ≡ sessionOf text
@@ -78,5 +78,5 @@ read-first (t ∷ ts) more can =
 
 pub most-stops : MostStops
 unfolding standing
-most-stops ts more most can reaches =
-    ap (leaving 1 0 noRefusal start) (read-first ts more can ∙ sym (lines-read ts can) ∙ sym (read-reached most (linesOf ts) reaches))
+most-stops frequency ts more most can reaches =
+    ap (leaving 1 0 noRefusal (start frequency)) (read-first ts more can ∙ sym (lines-read ts can) ∙ sym (read-reached most (linesOf ts) reaches))

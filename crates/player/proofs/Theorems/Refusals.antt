@@ -46,7 +46,8 @@ all-fit tally line (answer ∷ answers) some fit =
 
 pub none-is-first : NoneIsFirst
 unfolding standing leaving
-none-is-first text most = all-fit noRefusal 1 (answersTo start (readUpTo most text .sent)) (omega arith) (λ z. refl, λ z. refl)
+none-is-first frequency text most =
+    all-fit noRefusal 1 (answersTo (start frequency) (readUpTo most text .sent)) (omega arith) (λ z. refl, λ z. refl)
 
 -- once something is counted, the first stays
 first-stays : (tally : Tally) (line : ℕ) (answers : List Answer) → 0 < tally .count
@@ -97,4 +98,4 @@ first-is line state (u ∷ before) t later none refused =
 
 pub first-told : FirstTold
 unfolding standing leaving
-first-told text most before t later is none refused = rw is (first-is 1 start before t later none refused)
+first-told frequency text most before t later is none refused = rw is (first-is 1 (start frequency) before t later none refused)

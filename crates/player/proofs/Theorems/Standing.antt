@@ -6,9 +6,11 @@ use mathlib.Core.Path.{_≡_, refl, sym, _∙_}
 use Prim.Native.Nat.{ℕ, zero, suc, _<_}
 use native.Mathlib.Omega.{arith}
 use lib.ListN.{length, drop}
-use Rattle.controller.specs.Record.{sound}
+use Rattle.controller.specs.declared.sent.Sent.{Sent}
+use Rattle.controller.specs.Record.{resetRecord, sound}
 use Rattle.controller.specs.Runs.{State, decidedOf, after, ran}
 use Rattle.controller.proofs.Laws.Memory.{performed-length}
+use Rattle.controller.proofs.Theorems.Times.{transfer-keeps-frequency, within-fitted}
 use Rattle.controller.specs.Answers.{isDone}
 use Rattle.lines.specs.Reading.{lineOf}
 use Rattle.lines.specs.Session.{sentOf, readUpTo}
@@ -16,7 +18,7 @@ use Rattle.lines.proofs.Laws.Digits.{either}
 use Rattle.lines.proofs.Laws.Session.{read-none, read-enough, read-more, read-bad}
 use Rattle.player.specs.Report.{start}
 use Rattle.player.specs.Standing.{leaving, standing}
-use Rattle.player.specs.Theorems.{OneStanding, StandingTold}
+use Rattle.player.specs.Theorems.{FrequencyStays, OneStanding, StandingTold}
 use Rattle.player.proofs.Laws.Session.{sent-sound, start-sound}
 
 -- a controller with a sound record and a whole memory
@@ -41,7 +43,18 @@ stays-good (suc k) state (byte ∷ rest) is =
 
 pub standing-told : StandingTold
 unfolding standing leaving
-standing-told text most = stays-good most start text (start-sound, refl)
+standing-told frequency text most = stays-good most (start frequency) text (start-sound frequency, refl)
+
+-- no run of transfers alters the frequency
+ran-keeps : (state : State) (ts : List Sent) → ran state ts .rec .frequency ≡ state .rec .frequency
+unfolding ran
+ran-keeps state [] = refl
+ran-keeps state (t ∷ ts) =
+    ran-keeps (after state (decidedOf state t)) ts ∙ transfer-keeps-frequency (state .rec) (state .mem) (t .kind) (t .byte) (t .wait)
+
+pub frequency-stays : FrequencyStays
+unfolding standing leaving resetRecord
+frequency-stays frequency text most is = ran-keeps (start frequency) (readUpTo most text .sent) ∙ within-fitted frequency is
 
 pub one-standing : OneStanding
-one-standing text most a b is also = is ∙ sym also
+one-standing frequency text most a b is also = is ∙ sym also

@@ -57,10 +57,10 @@ returns-2 c =
     let asked = head .before .before in
     let begin = asked .before .before .before .before in
     let enough = sym (asked .before .is-short .ensures) ∙ asked .if1 .left in
-    let begins = reset-starts (set .before .before .after-reset .result) (set .reset .ensures) in
+    let begins = reset-starts (begin .args .frequency) (set .before .before .after-reset .result) (set .before .before .after-reset .ensures) (set .reset .ensures) in
     let long = ltb-false (length (begin .args .out .now)) (6 * length (begin .args .text .now) + 62) enough in
     let few : length (begin .args .out .now) < 2 ^ 64 = omega arith in
-    let done = report-done (begin .args .text .now) 18446744073709551615 (c .before .before .before .before .before .before .no-refusal .result) (c .before .before .before .walk .result) long (omega arith) (omega arith) (head .write-header .ensures) begins (c .before .before .before .walk .ensures) in
+    let done = report-done (begin .args .frequency) (begin .args .text .now) 18446744073709551615 (c .before .before .before .before .before .before .no-refusal .result) (c .before .before .before .walk .result) long (omega arith) (omega arith) (head .write-header .ensures) begins (c .before .before .before .walk .ensures) in
     simp enough (record { told = ap (λ (n : ℕ). record { answer = Done; length = n }) (done .0); number = refl; buffer = done .1 })
 
 pub play-spec : {M : Type 1} → statement M

@@ -46,10 +46,10 @@ returns c =
     let begin = set .before .before .before .before in
     let played = readUpTo (begin .args .most) (begin .args .text .now) in
     let none = c .before .before .before .before .before .before .before .no-refusal in
-    let begins = reset-starts (set .before .before .after-reset .result) (set .reset .ensures) in
+    let begins = reset-starts (begin .args .frequency) (set .before .before .after-reset .result) (set .before .before .after-reset .ensures) (set .reset .ensures) in
     ap (λ (w : Walked). w .stands) (c .before .before .before .before .walk .ensures)
     ∙ ap (λ (s : State). leaving 1 0 (none .result) s played) begins
-    ∙ ap (λ (tally : Tally). leaving 1 0 tally start played) (none .ensures)
+    ∙ ap (λ (tally : Tally). leaving 1 0 tally (start (begin .args .frequency)) played) (none .ensures)
 
 pub play-through-spec : {M : Type 1} → statement M
 play-through-spec =
