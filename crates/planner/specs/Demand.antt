@@ -9,6 +9,7 @@ use lib.ListN.{length, getD}
 use Rattle.controller.specs.Cells.{placeOf}
 use Rattle.controller.specs.Execute.{shortTime}
 use Rattle.controller.specs.Record.{sound}
+use Rattle.controller.specs.declared.oscillator.Frequency.{Frequency}
 use Rattle.controller.specs.declared.sent.Sent.{Sent}
 use Rattle.controller.specs.Runs.{State, Heard, ran, heard}
 use Rattle.controller.specs.declared.cells.Counter.the-variants.{Display}
@@ -73,7 +74,8 @@ wishedRecord wish mem =
       counter = Display (wish .cursor);
       reg = getD mem (wish .cursor) 0;
       fresh = true;
-      busy = shortTime;
+      busy = shortTime (wish .frequency);
+      frequency = wish .frequency;
       half = Empty;
     }
 
@@ -97,12 +99,49 @@ Spared marks start mem =
 abbrev pub Bytes : List ℕ → List ℕ → Type 0
 Bytes marks values = (place : ℕ) → marked marks place ≡ true → getD values place 0 < 256
 
--- Demand 3.
-abbrev pub CutRuns : Type 0
-CutRuns =
-    (wish : Wish) (marks values : List ℕ) (start : State) (cut : List (List Sent)) (last : List Sent)
-    → isWish wish marks ≡ true → Bytes marks values → sound (start .rec) ≡ true → length (start .mem) ≡ 144
-    → EachBegun (planOf wish marks values) cut → Whole (planOf wish marks values) last
+-- What a plan does for a wish on this controller: begun as often as you like and then let finish, it leaves the panel as wished.
+abbrev pub Serves : List Sent → Wish → List ℕ → List ℕ → State → Type 0
+Serves plan wish marks values start =
+    (cut : List (List Sent)) (last : List Sent) → EachBegun plan cut → Whole plan last
     → Stands wish marks values (ran start (joined cut last))
     × NoneBusy (heard start (joined cut last))
     × Spared marks start (ran start (joined cut last) .mem)
+
+-- What demand 3 asks of the wish and of the controller: the wish is accepted, with bytes for values, and the controller is sound,
+-- with its memory whole.
+pub record Asked (wish : Wish) (marks values : List ℕ) (start : State) : Type 0 where
+  pub accepted : isWish wish marks ≡ true
+  pub bytes : Bytes marks values
+  pub sound : sound (start .rec) ≡ true
+  pub whole : length (start .mem) ≡ 144
+
+-- Demand 3: the wish's frequency is the record's.
+abbrev pub CutRuns : Type 0
+CutRuns =
+    (wish : Wish) (marks values : List ℕ) (start : State) → Asked wish marks values start
+    → start .rec .frequency ≡ wish .frequency → Serves (planOf wish marks values) wish marks values start
+
+-- The same wish for a module of this frequency.
+abbrev pub atFrequency : Frequency → Wish → Wish
+atFrequency frequency wish =
+    record {
+      function = wish .function;
+      control = wish .control;
+      entry = wish .entry;
+      shift = wish .shift;
+      cursor = wish .cursor;
+      frequency = frequency;
+    }
+
+-- A plan for a frequency that is not above the controller's serves too: the panel stands as wished, at the controller's frequency.
+abbrev pub SlowerServes : Type 0
+SlowerServes =
+    (wish : Wish) (marks values : List ℕ) (start : State) → Asked wish marks values start
+    → wish .frequency .khz ≤ start .rec .frequency .khz
+    → Serves (planOf wish marks values) (atFrequency (start .rec .frequency) wish) marks values start
+
+-- So the plan for the lowest frequency, 190 kHz, serves on every module.
+abbrev pub LowestServes : Type 0
+LowestServes =
+    (wish : Wish) (marks values : List ℕ) (start : State) → Asked wish marks values start → wish .frequency .khz ≡ 190
+    → Serves (planOf wish marks values) (atFrequency (start .rec .frequency) wish) marks values start

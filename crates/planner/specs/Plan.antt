@@ -9,9 +9,11 @@ use Rattle.controller.specs.Cells.{addressSet}
 use Rattle.controller.specs.Execute.{shortTime, longTime}
 use Rattle.controller.specs.Halves.{highHalf, lowHalf}
 use Rattle.controller.specs.Sent.{sixBytes}
+use Rattle.controller.specs.declared.oscillator.Frequency.{Frequency}
 use Rattle.controller.specs.declared.sent.Sent.{Sent}
 use Rattle.controller.specs.declared.cells.Counter.{Counter}
 use Rattle.controller.specs.declared.cells.Counter.the-variants.{Display, Pattern}
+use Rattle.planner.specs.declared.pen.Times.{Times}
 use Rattle.planner.specs.declared.wish.Wish.{Wish}
 use Rattle.planner.specs.Wish.{marked, follows}
 
@@ -84,9 +86,13 @@ unfoldable pub commands : Wish → List ℕ → List ℕ → List Command
 commands wish marks values =
     setUp wish ++ (replicate (wish .shift) (instruction 0x18) ++ (cellsBelow (wish .function .n) marks values 144 ++ ending wish))
 
+-- The two times that a command can take at a frequency.
+abbrev pub timesAt : Frequency → Times
+timesAt frequency = record { short = shortTime frequency; long = longTime frequency }
+
 -- The time that a command takes: of those sent in two halves, only 02h is long.
-unfoldable pub timeOf : Command → ℕ
-timeOf command = cond (eqb (command .kind) 0 && eqb (command .byte) 0x02) longTime shortTime
+unfoldable pub timeOf : Times → Command → ℕ
+timeOf times command = cond (eqb (command .kind) 0 && eqb (command .byte) 0x02) (times .long) (times .short)
 
 -- A command's first half, after this wait.
 abbrev pub firstSent : ℕ → Command → Sent
@@ -97,13 +103,15 @@ abbrev pub secondSent : Command → Sent
 secondSent command = record { kind = command .kind; byte = lowHalf (command .byte); wait = 1 }
 
 -- First halves wait for the previous instruction's time.
-unfoldable pub inHalves : ℕ → List Command → List Sent
-inHalves before [] = []
-inHalves before (command ∷ rest) = firstSent before command ∷ secondSent command ∷ inHalves (timeOf command) rest
+unfoldable pub inHalves : Times → ℕ → List Command → List Sent
+inHalves times before [] = []
+inHalves times before (command ∷ rest) =
+    firstSent before command ∷ secondSent command ∷ inHalves times (timeOf times command) rest
 
--- The plan. The first half after item 1 waits 100.
+-- The plan. The first half after item 1 waits 100. The wish's frequency says how long the commands take, and nothing else goes by
+-- it.
 unfoldable pub planOf : Wish → List ℕ → List ℕ → List Sent
-planOf wish marks values = opening ++ inHalves 100 (commands wish marks values)
+planOf wish marks values = opening ++ inHalves (timesAt (wish .frequency)) 100 (commands wish marks values)
 
 -- The bytes of these records, one after the other.
 unfoldable pub encoded : List Sent → List ℕ

@@ -6,6 +6,7 @@ use Prim.Native.Nat.{ℕ, _-_}
 use lib.Dec.{ltb, leb, eqb}
 use lib.ListN.{getD}
 use Rattle.controller.specs.Cells.{lineLength}
+use Rattle.controller.specs.Oscillator.{inRange}
 use Rattle.planner.specs.declared.wish.Wish.{Wish}
 
 -- Each mark is 0 or 1.
@@ -13,11 +14,12 @@ unfoldable pub marksFit : List ℕ → Bool
 marksFit [] = true
 marksFit (mark ∷ marks) = leb mark 1 && marksFit marks
 
--- N=F=1, a shift or cursor out of range, or a mark above 1 is not a wish, and nothing else is not.
+-- N=F=1, a shift, cursor or frequency out of range, or a mark above 1 is not a wish, and nothing else is not.
 unfoldable pub isWish : Wish → List ℕ → Bool
 isWish wish marks =
     not (wish .function .n && wish .function .f)
-    && (ltb (wish .shift) (lineLength (wish .function .n)) && (ltb (wish .cursor) 80 && marksFit marks))
+    && (ltb (wish .shift) (lineLength (wish .function .n))
+    && (ltb (wish .cursor) 80 && (inRange (wish .frequency) && marksFit marks)))
 
 -- The cell at this place is marked.
 unfoldable pub marked : List ℕ → ℕ → Bool

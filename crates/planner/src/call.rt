@@ -37,7 +37,7 @@ fn write_plan(wish: Wish, marks: &[u8], values: &[u8], out: &mut [u8]) -> usize
         let plan = planOf wish (now (marks .entry)) (now (values .entry)) in
         ⌜ (r ≡ length plan) × (now (out .exit) ≡ laidOut plan (now (out .entry))) ⌝ }
 {
-    let opened = open(out);
+    let opened = open(out, wish);
     let ready = set_up(out, opened, wish);
     let shifted = shift_left(out, ready, wish.shift);
     let written = write_cells(out, shifted, wish.function.n, marks, values);

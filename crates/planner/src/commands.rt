@@ -5,10 +5,11 @@ ghost use lib.ListN.{length, replicate};
 ghost use lib.Seq.{sets};
 ghost use Rattle.planner.specs.Pen.{Wrote};
 ghost use Rattle.planner.specs.Plan.{addressByte, cell, cellsBelow, counterAt, encoded, ending, instruction, opening};
-ghost use Rattle.planner.specs.Plan.{setUp, single, worth};
+ghost use Rattle.planner.specs.Plan.{setUp, single, timesAt, worth};
 use crate::pen::Pen;
 use crate::pen::put;
 use crate::pen::send;
+use crate::pen::times_at;
 use crate::wish::Wish;
 use crate::wish::follows_marked;
 use crate::wish::is_marked;
@@ -30,16 +31,24 @@ fn sent_alone(byte: u8, wait: u32) -> Sent
     }
 }
 
-// Four single transfers that bring any controller to width 4 with no half waiting.
-pub fn open(out: &mut [u8]) -> Pen
+// Four single transfers that bring any controller to width 4 with no half waiting. Their waits and the 100 after them serve at
+// every frequency; the times of what follows are those of the wish.
+pub fn open(out: &mut [u8], wish: Wish) -> Pen
     requires { ⌜ 2808 ≤ length (now out) ⌝ }
-    ensures { λ r. ⌜ (r ≡ record { at = 4; wait = 100 }) × (now (out .exit) ≡ sets (now (out .entry)) 0 (encoded opening)) ⌝ }
+    ensures { λ r.
+        ⌜ (r ≡ record { at = 4; wait = 100; times = timesAt (wish .frequency) })
+        × (now (out .exit) ≡ sets (now (out .entry)) 0 (encoded opening)) ⌝ }
 {
+    let frequency = wish.frequency;
     put(out, 0, sent_alone(0x30, 15_000));
     put(out, 1, sent_alone(0x30, 4_100));
     put(out, 2, sent_alone(0x30, 100));
     put(out, 3, sent_alone(0x20, 100));
-    Pen { at: 4, wait: 100 }
+    Pen {
+        at: 4,
+        wait: 100,
+        times: times_at(frequency),
+    }
 }
 
 // A bit that is worth this much in its byte.

@@ -6,16 +6,33 @@ ghost use lib.ListN.{length};
 ghost use lib.Seq.{sets};
 ghost use Rattle.planner.specs.Pen.{Wrote};
 ghost use Rattle.controller.specs.Sent.{sixBytes};
-ghost use Rattle.planner.specs.Plan.{timeOf};
+ghost use Rattle.planner.specs.Plan.{timeOf, timesAt};
+use controller::Frequency;
 use controller::Sent;
 use controller::long_time;
 use controller::short_time;
 use controller::six_bytes;
 
-// Where the next record goes, counted in records, and the time that the last instruction takes.
+// The two times that a command can take, worked out once for a plan.
+pub struct Times {
+    pub short: u32,
+    pub long: u32,
+}
+
+// Where the next record goes, counted in records, the time that the last instruction takes, and the times of those to come.
 pub struct Pen {
     pub at: usize,
     pub wait: u32,
+    pub times: Times,
+}
+
+pub fn times_at(frequency: Frequency) -> Times
+    ensures { λ r. ⌜ r ≡ timesAt frequency ⌝ }
+{
+    Times {
+        short: short_time(frequency),
+        long: long_time(frequency),
+    }
 }
 
 // One record, its six bytes.
@@ -34,15 +51,15 @@ pub fn put(out: &mut [u8], at: usize, sent: Sent)
 }
 
 // The time that a command takes: of those sent in two halves, only Home is long.
-fn time_of(kind: u8, byte: u8) -> u32
-    ensures { λ r. ⌜ r ≡ timeOf (record { kind = kind; byte = byte }) ⌝ }
+fn time_of(times: Times, kind: u8, byte: u8) -> u32
+    ensures { λ r. ⌜ r ≡ timeOf times (record { kind = kind; byte = byte }) ⌝ }
 {
     if kind == 0 {
         if byte == 0x02 {
-            return long_time();
+            return times.long;
         }
     }
-    short_time()
+    times.short
 }
 
 // A command in two halves: the first waits for the instruction before it, the second 1.
@@ -51,6 +68,7 @@ pub fn send(out: &mut [u8], pen: Pen, kind: u8, byte: u8) -> Pen
     ensures { λ r. ⌜ Wrote (record { kind = kind; byte = byte } ∷ []) pen r (now (out .entry)) (now (out .exit)) ⌝ }
 {
     let at = pen.at;
+    let times = pen.times;
     put(
         out,
         at,
@@ -71,6 +89,7 @@ pub fn send(out: &mut [u8], pen: Pen, kind: u8, byte: u8) -> Pen
     );
     Pen {
         at: at + 2,
-        wait: time_of(kind, byte),
+        wait: time_of(times, kind, byte),
+        times,
     }
 }

@@ -6,17 +6,20 @@ ghost use lib.ListN.{length};
 ghost use Rattle.planner.specs.Wish.{follows, isWish, marked, marksFit};
 use controller::Control;
 use controller::Entry;
+use controller::Frequency;
 use controller::Function;
+use controller::is_in_range;
 use controller::line_length;
 
-// How the panel is to stand: the seven bits, the shift, and the display cell of the cursor. The cells to be written are
-// given beside it, as 144 marks and 144 values.
+// How the panel is to stand: the seven bits, the shift, and the display cell of the cursor; and the frequency of the module that
+// the plan is for. The cells to be written are given beside it, as 144 marks and 144 values.
 pub struct Wish {
     pub function: Function,
     pub control: Control,
     pub entry: Entry,
     pub shift: u8,
     pub cursor: u8,
+    pub frequency: Frequency,
 }
 
 // Whether each mark is 0 or 1.
@@ -48,8 +51,10 @@ pub fn is_wish(wish: Wish, marks: &[u8]) -> bool
     ensures { λ r. ⌜ r ≡ isWish wish (now (marks .entry)) ⌝ }
 {
     let function = wish.function;
+    let frequency = wish.frequency;
     is_allowed(function)
-        && (wish.shift < line_length(wish.function.n) && (wish.cursor < 80 && marks_fit(marks)))
+        && (wish.shift < line_length(wish.function.n)
+            && (wish.cursor < 80 && (is_in_range(frequency) && marks_fit(marks))))
 }
 
 // Whether the cell at this place is to be written.

@@ -5,7 +5,7 @@ use mathlib.Core.List.{List, _∷_, _++_, append-assoc}
 use mathlib.Core.Logic.{⊎-elim}
 use mathlib.Core.Path.{_≡_, refl, sym, ap, subst, _∙_}
 use Prim.Native.Nat.{ℕ, zero, suc, _+_, _-_, _%_, _≤_, _<_}
-use native.Mathlib.Nat.{le-refl, eq-or-lt-of-le, le-of-suc-le-suc, mod-eq-of-lt}
+use native.Mathlib.Nat.{eq-or-lt-of-le, le-of-suc-le-suc, mod-eq-of-lt}
 use native.Mathlib.Omega.{arith}
 use lib.Dec.{eqb, ltb}
 use lib.ListN.{length, getD, set}
@@ -35,7 +35,7 @@ use Rattle.controller.specs.declared.«record».Function.{Function}
 use Rattle.controller.specs.declared.«record».Record.{Record}
 use Rattle.planner.proofs.Demand.Command.{instruct, write-wished}
 use Rattle.planner.proofs.Demand.Opening.{Steady, empty-quiet}
-use Rattle.planner.proofs.Demand.Safe.{Scene, Inv, Safe}
+use Rattle.planner.proofs.Demand.Safe.{Scene, Inv, Safe, short-enough}
 use Rattle.planner.proofs.Demand.Stages.{Shaped, short-time}
 use Rattle.planner.proofs.Laws.Written.{cell-none, cell-next, cell-first}
 use Rattle.planner.specs.declared.wish.Wish.{Wish}
@@ -159,13 +159,13 @@ carried-off (Pattern cell) rec fixed = refl
 -- what a data write does while the counter goes up and the display stays
 wrote : ℕ → Record → Decision
 wrote byte rec =
-    done shortTime (Store (placeOf (rec .counter)) byte) (withRegister byte false (withCounter (stepped true (rec .counter)) rec))
+    done (shortTime (rec .frequency)) (Store (placeOf (rec .counter)) byte) (withRegister byte false (withCounter (stepped true (rec .counter)) rec))
 
 write-does : (byte : ℕ) (rec : Record) → rec .entry .id ≡ true → rec .entry .s ≡ false → written byte rec ≡ wrote byte rec
 unfolding written wrote
 write-does byte rec rising fixed =
-    ap (λ (r : Record). done shortTime (Store (placeOf (rec .counter)) byte) (withRegister byte false r)) (carried-off (rec .counter) (movedOn rec) fixed)
-    ∙ ap (λ (x : Bool). done shortTime (Store (placeOf (rec .counter)) byte) (withRegister byte false (withCounter (stepped x (rec .counter)) rec))) rising
+    ap (λ (r : Record). done (shortTime (rec .frequency)) (Store (placeOf (rec .counter)) byte) (withRegister byte false r)) (carried-off (rec .counter) (movedOn rec) fixed)
+    ∙ ap (λ (x : Bool). done (shortTime (rec .frequency)) (Store (placeOf (rec .counter)) byte) (withRegister byte false (withCounter (stepped x (rec .counter)) rec))) rising
 
 -- what holds before the cell at this place is dealt with
 pub record At (k : Scene) (wish : Wish) (place wait : ℕ) (s : State) : Type 0 where
@@ -177,7 +177,7 @@ pub record At (k : Scene) (wish : Wish) (place wait : ℕ) (s : State) : Type 0 
 
 -- what is still to be sent is safe from wherever the next place is reached
 abbrev Later : Scene → (State → Type 0) → Wish → ℕ → List Command → Type 0
-Later k Q wish place rest = (wait : ℕ) (s : State) → At k wish place wait s → Safe k Q s (inHalves wait rest)
+Later k Q wish place rest = (wait : ℕ) (s : State) → At k wish place wait s → Safe k Q s (inHalves (k .times) wait rest)
 
 -- a byte stored at a place, read at any
 stored-at : (mem : List ℕ) (values : List ℕ) (marks : List ℕ) (place at : ℕ) → length mem ≡ 144 → at ≡ place → place < 144
@@ -194,21 +194,21 @@ stored-at mem values marks place at long here below before j under mark =
 write-at : (k : Scene) (Q : State → Type 0) (wish : Wish) (place wait : ℕ) (s : State) (rest : List Command) → place < 144 → marked (k .marks) place ≡ true
     → Inv k s → Steady wait (s .rec) → Shaped wish (wish .shift) (s .rec) → s .rec .counter ≡ counterAt place
     → ((j : ℕ) → j < place → marked (k .marks) j ≡ true → getD (s .mem) j 0 ≡ getD (k .values) j 0)
-    → Later k Q wish (suc place) rest → Safe k Q s (inHalves wait (write (getD (k .values) place 0) ∷ rest))
+    → Later k Q wish (suc place) rest → Safe k Q s (inHalves (k .times) wait (write (getD (k .values) place 0) ∷ rest))
 unfolding wrote performed timeOf
 write-at k Q wish place wait s rest below mark inv steady shaped there before later =
     let rec : Record = busyOver (s .rec) in
     let byte : ℕ = getD (k .values) place 0 in
     let d : Decision = wrote byte rec in
     let here : placeOf (s .rec .counter) ≡ place = ap placeOf there ∙ place-at place in
-    write-wished k Q s byte wait shortTime rest d
+    write-wished k Q s byte wait (k .times .short) rest d
     (ap (marked (k .marks)) here ∙ mark) (ap (λ (x : ℕ). getD (k .values) x 0) (sym here))
     (write-does byte rec (ap (λ (e : Entry). e .id) (shaped .entry)) (ap (λ (e : Entry). e .s) (shaped .entry)))
     refl (steady .half) refl inv steady
-    (λ inv₁. later shortTime (after s d)
+    (λ inv₁. later (k .times .short) (after s d)
     (record {
       inv = inv₁;
-      steady = record { busy = le-refl shortTime; narrow = steady .narrow; half = steady .half };
+      steady = record { busy = short-enough k s inv; narrow = steady .narrow; half = steady .half };
       shaped = record { function = shaped .function; control = shaped .control; entry = shaped .entry; shift = shaped .shift };
       next = λ more after-one. ap (stepped true) there ∙ step-at place more (follows-inner (k .marks) (suc place) after-one);
       written = stored-at (s .mem) (k .values) (k .marks) place (placeOf (s .rec .counter)) (inv .whole) here below before;
@@ -230,17 +230,17 @@ pass-at k wish place wait s no-mark at =
 -- a marked cell, its address set first
 first-at : (k : Scene) (Q : State → Type 0) (wish : Wish) (place wait : ℕ) (s : State) (rest : List Command) → place < 144 → marked (k .marks) place ≡ true
     → At k wish place wait s → Later k Q wish (suc place) rest
-    → Safe k Q s (inHalves wait (instruction (addressByte (wish .function .n) place) ∷ write (getD (k .values) place 0) ∷ rest))
+    → Safe k Q s (inHalves (k .times) wait (instruction (addressByte (wish .function .n) place) ∷ write (getD (k .values) place 0) ∷ rest))
 unfolding performed
 first-at k Q wish place wait s rest below mark at later =
     let n : Bool = wish .function .n in
     let d : Decision = changed (loaded (s .mem) (placed (counterAt place) (busyOver (s .rec)))) in
     let small = address-small n place below in
-    instruct k Q s (addressByte n place) wait shortTime _ d (small .0)
+    instruct k Q s (addressByte n place) wait (k .times .short) _ d (small .0)
     (address-does (s .mem) n place (busyOver (s .rec)) below (ap (λ (x : Function). x .n) (at .shaped .function)))
-    refl (empty-quiet _ (at .steady .half)) (short-time (addressByte n place) (λ e. omega arith)) (at .inv) (at .steady)
-    (λ inv₁. write-at k Q wish place shortTime (after s d) rest below mark inv₁
-    (record { busy = le-refl shortTime; narrow = at .steady .narrow; half = at .steady .half })
+    refl (empty-quiet _ (at .steady .half)) (short-time (k .times) (addressByte n place) (λ e. omega arith)) (at .inv) (at .steady)
+    (λ inv₁. write-at k Q wish place (k .times .short) (after s d) rest below mark inv₁
+    (record { busy = short-enough k s (at .inv); narrow = at .steady .narrow; half = at .steady .half })
     (record { function = at .shaped .function; control = at .shaped .control; entry = at .shaped .entry; shift = at .shaped .shift })
     refl (at .written) later)
 
@@ -253,15 +253,15 @@ cell-at k Q wish place rest below later wait s at = go (marked (k .marks) place)
     n = wish .function .n
 
     go : (m f : Bool) → marked (k .marks) place ≡ m → follows (k .marks) place ≡ f
-        → Safe k Q s (inHalves wait (cell (wish .function .n) (k .marks) (k .values) place ++ rest))
+        → Safe k Q s (inHalves (k .times) wait (cell (wish .function .n) (k .marks) (k .values) place ++ rest))
     go false f no-mark _ =
-        subst (λ (cs : List Command). Safe k Q s (inHalves wait (cs ++ rest))) (sym (cell-none (wish .function .n) (k .marks) (k .values) place no-mark))
+        subst (λ (cs : List Command). Safe k Q s (inHalves (k .times) wait (cs ++ rest))) (sym (cell-none (wish .function .n) (k .marks) (k .values) place no-mark))
         (later wait s (pass-at k wish place wait s no-mark at))
     go true true mark after-one =
-        subst (λ (cs : List Command). Safe k Q s (inHalves wait (cs ++ rest))) (sym (cell-next (wish .function .n) (k .marks) (k .values) place mark after-one))
+        subst (λ (cs : List Command). Safe k Q s (inHalves (k .times) wait (cs ++ rest))) (sym (cell-next (wish .function .n) (k .marks) (k .values) place mark after-one))
         (write-at k Q wish place wait s rest below mark (at .inv) (at .steady) (at .shaped) (at .next below after-one) (at .written) later)
     go true false mark alone =
-        subst (λ (cs : List Command). Safe k Q s (inHalves wait (cs ++ rest))) (sym (cell-first (wish .function .n) (k .marks) (k .values) place mark alone))
+        subst (λ (cs : List Command). Safe k Q s (inHalves (k .times) wait (cs ++ rest))) (sym (cell-first (wish .function .n) (k .marks) (k .values) place mark alone))
         (first-at k Q wish place wait s rest below mark at later)
 
 -- all marked cells below a place
@@ -270,6 +270,6 @@ pub cells-safe : (k : Scene) (Q : State → Type 0) (wish : Wish) (place : ℕ) 
 unfolding cellsBelow
 cells-safe k Q wish zero rest within later wait s at = later wait s at
 cells-safe k Q wish (suc place) rest within later wait s at =
-    subst (λ (cs : List Command). Safe k Q s (inHalves wait cs))
+    subst (λ (cs : List Command). Safe k Q s (inHalves (k .times) wait cs))
     (sym (append-assoc (cellsBelow (wish .function .n) (k .marks) (k .values) place) (cell (wish .function .n) (k .marks) (k .values) place) rest))
     (cells-safe k Q wish place (cell (wish .function .n) (k .marks) (k .values) place ++ rest) (omega arith) (cell-at k Q wish place rest within later) wait s at)

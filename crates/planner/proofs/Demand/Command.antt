@@ -100,20 +100,20 @@ module _ (w : Way) (s : State) (byte : ℕ) where
   -- both halves, neither of which does harm, and then the rest
   in-two : (k : Scene) (Q : State → Type 0) (wait time : ℕ) (cs : List Command) (d : Decision) → byte < 256
       → completed (s .mem) (w .makes byte) (busyOver (s .rec)) ≡ d → Harmless k one → Harmless k (ended false d)
-      → timeOf command ≡ time → Inv k s → Steady wait (s .rec)
-      → (Inv k (after s d) → Safe k Q (after s d) (inHalves time cs)) → Safe k Q s (inHalves wait (command ∷ cs))
+      → timeOf (k .times) command ≡ time → Inv k s → Steady wait (s .rec)
+      → (Inv k (after s d) → Safe k Q (after s d) (inHalves (k .times) time cs)) → Safe k Q s (inHalves (k .times) wait (command ∷ cs))
   unfolding inHalves performed
   in-two k Q wait time cs d below does harmless-one harmless takes inv steady rest =
       step-to k Q s (firstSent wait command) _ one (first-sent wait steady) inv (w .good (highHalf byte)) (omega arith) (steady .busy) harmless-one
       (λ next. step-to k Q (after s one) (secondSent command) _ (ended false d)
       (second-sent (steady .narrow) (steady .half) ∙ ap (ended false) does) next (w .good (lowHalf byte)) (omega arith) zero-le harmless
-      (λ last. subst (λ (t : ℕ). Safe k Q (after s d) (inHalves t cs)) (sym takes) (rest last)))
+      (λ last. subst (λ (t : ℕ). Safe k Q (after s d) (inHalves (k .times) t cs)) (sym takes) (rest last)))
 
 -- an instruction that keeps the memory, and then the rest
 pub instruct : (k : Scene) (Q : State → Type 0) (s : State) (byte wait time : ℕ) (cs : List Command) (d : Decision) → byte < 256
     → executed (s .mem) (decoded byte) (busyOver (s .rec)) ≡ d → d .effect ≡ Keep → halfWrite (d .rec .half) ≡ false
-    → timeOf (instruction byte) ≡ time → Inv k s → Steady wait (s .rec)
-    → (Inv k (after s d) → Safe k Q (after s d) (inHalves time cs)) → Safe k Q s (inHalves wait (instruction byte ∷ cs))
+    → timeOf (k .times) (instruction byte) ≡ time → Inv k s → Steady wait (s .rec)
+    → (Inv k (after s d) → Safe k Q (after s d) (inHalves (k .times) time cs)) → Safe k Q s (inHalves (k .times) wait (instruction byte ∷ cs))
 unfolding completed halfWrite badTransfer narrow begun firstHalf
 instruct k Q s byte wait time cs d below does keep none =
     in-two instructing s byte k Q wait time cs d below does (quiet k (one instructing s byte) refl refl) (quiet k (ended false d) keep none)
@@ -122,8 +122,8 @@ instruct k Q s byte wait time cs d below does keep none =
 pub write-wished : (k : Scene) (Q : State → Type 0) (s : State) (byte wait time : ℕ) (cs : List Command) (d : Decision)
     → marked (k .marks) (placeOf (s .rec .counter)) ≡ true → byte ≡ getD (k .values) (placeOf (s .rec .counter)) 0
     → written byte (busyOver (s .rec)) ≡ d → d .effect ≡ Store (placeOf (s .rec .counter)) byte → d .rec .half ≡ Empty
-    → timeOf (write byte) ≡ time → Inv k s → Steady wait (s .rec)
-    → (Inv k (after s d) → Safe k Q (after s d) (inHalves time cs)) → Safe k Q s (inHalves wait (write byte ∷ cs))
+    → timeOf (k .times) (write byte) ≡ time → Inv k s → Steady wait (s .rec)
+    → (Inv k (after s d) → Safe k Q (after s d) (inHalves (k .times) time cs)) → Safe k Q s (inHalves (k .times) wait (write byte ∷ cs))
 unfolding completed badTransfer narrow begun firstHalf
 write-wished k Q s byte wait time cs d mark wished does stores none =
     in-two writing s byte k Q wait time cs d (subst (λ (b : ℕ). b < 256) (sym wished) (k .bytes (placeOf (s .rec .counter)) mark)) does

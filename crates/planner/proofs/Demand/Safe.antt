@@ -5,20 +5,26 @@ use mathlib.Core.Bool.{true, false}
 use mathlib.Core.List.{List, [], _∷_, _++_}
 use mathlib.Core.Logic.{_⊎_}
 use mathlib.Core.Path.{_≡_, refl}
-use Prim.Native.Nat.{ℕ, _+_, _*_, _<_}
+use Prim.Native.Nat.{ℕ, _+_, _*_, _<_, _≤_}
 use lib.ListN.{length, getD}
 use Rattle.controller.specs.Cells.{placeOf}
+use Rattle.controller.specs.Execute.{shortTime, longTime}
 use Rattle.controller.specs.Halves.{highHalf}
 use Rattle.controller.specs.Record.{sound}
 use Rattle.controller.specs.declared.sent.Sent.{Sent}
 use Rattle.controller.specs.Runs.{State, decidedOf, after, toldOf, ran, heard}
 use Rattle.controller.specs.declared.«record».Half.the-variants.{DataWrite}
+use Rattle.planner.specs.declared.pen.Times.{Times}
 use Rattle.planner.specs.Demand.{AsAsked, Whole, Begun, EachBegun, joined, excepted, NoneBusy, Bytes}
 use Rattle.planner.specs.Wish.{marked}
 
--- what is fixed before the first run: the controller as found, the marks, and the values, bytes where they are marked
+-- what is fixed before the first run: the controller as found, the times that the plan goes by, which are enough for it, the marks,
+-- and the values, bytes where they are marked
 pub record Scene : Type 0 where
   pub start : State
+  pub times : Times
+  pub short : shortTime (start .rec .frequency) ≤ times .short
+  pub long : longTime (start .rec .frequency) ≤ times .long
   pub marks : List ℕ
   pub values : List ℕ
   pub bytes : Bytes marks values
@@ -29,14 +35,22 @@ Holds k place byte =
     (byte ≡ getD (k .start .mem) place 0)
     ⊎ ((marked (k .marks) place ≡ true) × ((byte ≡ getD (k .values) place 0) ⊎ (byte ≡ highHalf (getD (k .values) place 0) + 3)))
 
--- between any two transfers: a sound record, a whole memory, each cell that is not excepted with a byte that it may hold,
+-- between any two transfers: a sound record of the same frequency, a whole memory, each cell that is not excepted with a byte that it may hold,
 -- and a waiting data write that 3h would complete to such a byte
 pub record Inv (k : Scene) (s : State) : Type 0 where
   pub sound : sound (s .rec) ≡ true
+  pub frequency : s .rec .frequency ≡ k .start .rec .frequency
   pub whole : length (s .mem) ≡ 144
   pub cells : (place : ℕ) → place < 144 → excepted (k .start .rec) place ≡ false → Holds k place (getD (s .mem) place 0)
   pub half : (high : ℕ) → s .rec .half ≡ DataWrite high → excepted (k .start .rec) (placeOf (s .rec .counter)) ≡ false
       → Holds k (placeOf (s .rec .counter)) (high * 16 + 3)
+
+-- the plan's times are enough at each of them
+pub short-enough : (k : Scene) (s : State) → Inv k s → shortTime (s .rec .frequency) ≤ k .times .short
+short-enough k s inv = rw (inv .frequency) (k .short)
+
+pub long-enough : (k : Scene) (s : State) → Inv k s → longTime (s .rec .frequency) ≤ k .times .long
+long-enough k s inv = rw (inv .frequency) (k .long)
 
 -- the answer is not 4, and the invariant holds afterwards
 pub record Fine (k : Scene) (s : State) (t : Sent) : Type 0 where

@@ -4,14 +4,13 @@ use mathlib.Core.Bool.{Bool, true, false}
 use mathlib.Core.List.{List, _++_}
 use mathlib.Core.Path.{_≡_, refl, ap, _∙_}
 use Prim.Native.Nat.{ℕ, zero, suc, _+_, _-_, _<_}
-use native.Mathlib.Nat.{le-refl}
 use native.Mathlib.Omega.{arith}
 use lib.ListN.{replicate}
 use borrow.Author.Tests.{ne-eqb}
 use Rattle.controller.proofs.Theorems.Cells.{wraps}
 use Rattle.controller.specs.Cells.{wrapped}
 use Rattle.controller.specs.Decision.{done}
-use Rattle.controller.specs.Execute.{shortTime, longTime, changed, shifted, homed, executed}
+use Rattle.controller.specs.Execute.{longTime, changed, shifted, homed, executed}
 use Rattle.controller.specs.Instruction.{decoded, bit}
 use Rattle.controller.specs.Record.{busyOver, withFunction, withControl, withEntry}
 use Rattle.controller.specs.Runs.{State, after}
@@ -25,8 +24,9 @@ use Rattle.controller.specs.declared.«record».Function.{Function}
 use Rattle.controller.specs.declared.«record».Record.{Record}
 use Rattle.planner.proofs.Demand.Command.{instruct}
 use Rattle.planner.proofs.Demand.Opening.{Steady, empty-quiet}
-use Rattle.planner.proofs.Demand.Safe.{Scene, Inv, Safe}
+use Rattle.planner.proofs.Demand.Safe.{Scene, Inv, Safe, short-enough, long-enough}
 use Rattle.planner.proofs.Laws.Wish.{worth-small}
+use Rattle.planner.specs.declared.pen.Times.{Times}
 use Rattle.planner.specs.declared.wish.Wish.{Wish}
 use Rattle.planner.specs.Plan.{Command, instruction, worth, setUp, ending, commands, timeOf, inHalves}
 use Rattle.planner.specs.Wish.{marked}
@@ -58,13 +58,13 @@ control-byte true true false = refl
 control-byte true true true = refl
 
 -- every instruction byte but 02h takes the short time
-pub short-time : (byte : ℕ) → (byte ≡ 2 → ⊥) → timeOf (instruction byte) ≡ shortTime
+pub short-time : (times : Times) (byte : ℕ) → (byte ≡ 2 → ⊥) → timeOf times (instruction byte) ≡ times .short
 unfolding timeOf
-short-time byte other = rw (ne-eqb byte 2 other)
+short-time times byte other = rw (ne-eqb byte 2 other)
 
-home-time : timeOf (instruction 0x02) ≡ longTime
+home-time : (times : Times) → timeOf times (instruction 0x02) ≡ times .long
 unfolding timeOf
-home-time = refl
+home-time times = refl
 
 -- the display off, and the counter going up without shift
 abbrev off : Control
@@ -82,8 +82,9 @@ pub record Shaped (wish : Wish) (moved : ℕ) (rec : Record) : Type 0 where
 
 -- Function Set, 08h, 06h, 02h, and then the rest
 pub set-up-safe : (k : Scene) (Q : State → Type 0) (wish : Wish) (s : State) (rest : List Command) → Inv k s → Steady 100 (s .rec)
-    → ((s′ : State) → Inv k s′ → Steady longTime (s′ .rec) → Shaped wish 0 (s′ .rec) → Safe k Q s′ (inHalves longTime rest))
-    → Safe k Q s (inHalves 100 (setUp wish ++ rest))
+    → ((s′ : State) → Inv k s′ → Steady (k .times .long) (s′ .rec) → Shaped wish 0 (s′ .rec)
+    → Safe k Q s′ (inHalves (k .times) (k .times .long) rest))
+    → Safe k Q s (inHalves (k .times) 100 (setUp wish ++ rest))
 unfolding executed decoded bit
 set-up-safe k Q wish s rest inv steady then =
     let n : Bool = wish .function .n in
@@ -95,24 +96,26 @@ set-up-safe k Q wish s rest inv steady then =
     let s₂ : State = after s₁ d₂ in
     let d₃ : Decision = changed (withEntry up (busyOver (s₂ .rec))) in
     let s₃ : State = after s₂ d₃ in
-    let d₄ : Decision = done longTime Keep (homed (busyOver (s₃ .rec))) in
-    let st : Steady shortTime (d₁ .rec) = record { busy = le-refl shortTime; narrow = refl; half = steady .half } in
-    instruct k Q s byte 100 shortTime _ d₁ (omega (arith, worth-small 0x08 n, worth-small 0x04 f))
+    let d₄ : Decision = done (longTime (s .rec .frequency)) Keep (homed (busyOver (s₃ .rec))) in
+    let short : ℕ = k .times .short in
+    let brief = short-enough k s inv in
+    let st : Steady short (d₁ .rec) = record { busy = brief; narrow = refl; half = steady .half } in
+    instruct k Q s byte 100 short _ d₁ (omega (arith, worth-small 0x08 n, worth-small 0x04 f))
     (ap (λ (i : Instruction). executed (s .mem) i (busyOver (s .rec))) (function-byte n f)) refl (empty-quiet _ (steady .half))
-    (short-time byte (λ e. omega arith)) inv steady
-    (λ inv₁. instruct k Q s₁ 0x08 shortTime shortTime _ d₂ (omega arith) refl refl (empty-quiet _ (steady .half)) (short-time 0x08 (λ e. omega arith)) inv₁ st
-    (λ inv₂. instruct k Q s₂ 0x06 shortTime shortTime _ d₃ (omega arith) refl refl (empty-quiet _ (steady .half)) (short-time 0x06 (λ e. omega arith)) inv₂
-    (record { busy = le-refl shortTime; narrow = refl; half = steady .half })
-    (λ inv₃. instruct k Q s₃ 0x02 shortTime longTime rest d₄ (omega arith) refl refl (empty-quiet _ (steady .half)) home-time inv₃
-    (record { busy = le-refl shortTime; narrow = refl; half = steady .half })
-    (λ inv₄. then (after s₃ d₄) inv₄ (record { busy = le-refl longTime; narrow = refl; half = steady .half })
+    (short-time (k .times) byte (λ e. omega arith)) inv steady
+    (λ inv₁. instruct k Q s₁ 0x08 short short _ d₂ (omega arith) refl refl (empty-quiet _ (steady .half)) (short-time (k .times) 0x08 (λ e. omega arith)) inv₁ st
+    (λ inv₂. instruct k Q s₂ 0x06 short short _ d₃ (omega arith) refl refl (empty-quiet _ (steady .half)) (short-time (k .times) 0x06 (λ e. omega arith)) inv₂
+    (record { busy = brief; narrow = refl; half = steady .half })
+    (λ inv₃. instruct k Q s₃ 0x02 short (k .times .long) rest d₄ (omega arith) refl refl (empty-quiet _ (steady .half)) (home-time (k .times)) inv₃
+    (record { busy = brief; narrow = refl; half = steady .half })
+    (λ inv₄. then (after s₃ d₄) inv₄ (record { busy = long-enough k s inv; narrow = refl; half = steady .half })
     (record { function = refl; control = refl; entry = refl; shift = refl })))))
 
 -- 18h as often as is left of the shift, and then the rest
 pub shift-safe : (k : Scene) (Q : State → Type 0) (wish : Wish) (more moved total : ℕ) (rest : List Command) → moved + more ≡ total → total < 80
-    → ((wait : ℕ) (s′ : State) → Inv k s′ → Steady wait (s′ .rec) → Shaped wish total (s′ .rec) → Safe k Q s′ (inHalves wait rest))
+    → ((wait : ℕ) (s′ : State) → Inv k s′ → Steady wait (s′ .rec) → Shaped wish total (s′ .rec) → Safe k Q s′ (inHalves (k .times) wait rest))
     → (wait : ℕ) (s : State) → Inv k s → Steady wait (s .rec) → Shaped wish moved (s .rec)
-    → Safe k Q s (inHalves wait (replicate more (instruction 0x18) ++ rest))
+    → Safe k Q s (inHalves (k .times) wait (replicate more (instruction 0x18) ++ rest))
 unfolding executed decoded bit
 shift-safe k Q wish zero moved total rest sum below then wait s inv steady shaped =
     let all : moved ≡ total = omega arith in
@@ -121,7 +124,7 @@ shift-safe k Q wish (suc more) moved total rest sum below then wait s inv steady
     let d : Decision = changed (shifted true (busyOver (s .rec))) in
     let one-on : wrapped 80 true (s .rec .shift) ≡ moved + 1 =
     ap (wrapped 80 true) (shaped .shift) ∙ wraps 80 moved (omega arith) .0 ∙ rw (ne-eqb (moved + 1) 80 (λ e. omega arith)) refl in
-    instruct k Q s 0x18 wait shortTime _ d (omega arith) refl refl (empty-quiet _ (steady .half)) (short-time 0x18 (λ e. omega arith)) inv steady
-    (λ inv₁. shift-safe k Q wish more (moved + 1) total rest (omega arith) below then shortTime (after s d) inv₁
-    (record { busy = le-refl shortTime; narrow = steady .narrow; half = steady .half })
+    instruct k Q s 0x18 wait (k .times .short) _ d (omega arith) refl refl (empty-quiet _ (steady .half)) (short-time (k .times) 0x18 (λ e. omega arith)) inv steady
+    (λ inv₁. shift-safe k Q wish more (moved + 1) total rest (omega arith) below then (k .times .short) (after s d) inv₁
+    (record { busy = short-enough k s inv; narrow = steady .narrow; half = steady .half })
     (record { function = shaped .function; control = shaped .control; entry = shaped .entry; shift = one-on }))

@@ -15,6 +15,7 @@ use Rattle.controller.proofs.Laws.Record.{waited-over}
 use Rattle.controller.proofs.Laws.Taken.{covered, taken}
 use Rattle.controller.proofs.Theorems.Answers.{four-waits}
 use Rattle.controller.proofs.Theorems.Sound.{transfer-keeps-sound}
+use Rattle.controller.proofs.Theorems.Times.{transfer-keeps-frequency}
 use Rattle.controller.specs.Bus.{badTransfer}
 use Rattle.controller.specs.Cells.{placeOf}
 use Rattle.controller.specs.Decision.{performed}
@@ -67,10 +68,12 @@ mild-cells k s effect inv (stores at byte may) place below free = go (eqb place 
         rw (here, getD-set-same (s .mem) at byte 0 (omega (arith, inv .whole))) (may (rw here at free))
     go false t = rw (getD-set-other (s .mem) at place byte 0 (eqb-false place at t)) (inv .cells place below free)
 
-inv-after : (k : Scene) (s : State) (d : Decision) → Inv k s → sound (d .rec) ≡ true → Harmless k d → Inv k (after s d)
-inv-after k s d inv still harmless =
+inv-after : (k : Scene) (s : State) (d : Decision) → Inv k s → sound (d .rec) ≡ true → d .rec .frequency ≡ s .rec .frequency → Harmless k d
+    → Inv k (after s d)
+inv-after k s d inv still same harmless =
     record {
       sound = still;
+      frequency = same ∙ inv .frequency;
       whole = performed-length (d .effect) (s .mem) (inv .whole);
       cells = mild-cells k s (d .effect) inv (harmless .effect);
       half = harmless .half;
@@ -82,10 +85,14 @@ pub step : (k : Scene) (Q : State → Type 0) (s : State) (asked : Sent) (plan :
     → (Inv k (after s (comesTo s asked)) → Safe k Q (after s (comesTo s asked)) plan) → Safe k Q s (asked ∷ plan)
 step k Q s asked plan inv good byte over harmless rest =
     let itself : AsAsked asked asked = record { kind = refl; byte = refl; wait = le-refl (asked .wait) } in
+    let planned = as-planned k s asked asked inv good over itself in
+    let same : comesTo s asked .rec .frequency ≡ s .rec .frequency =
+    sym (ap (λ (d : Decision). d .rec .frequency) planned)
+    ∙ transfer-keeps-frequency (s .rec) (s .mem) (asked .kind) (asked .byte) (asked .wait) in
     let still : sound (comesTo s asked .rec) ≡ true =
-    sym (ap (λ (d : Decision). sound (d .rec)) (as-planned k s asked asked inv good over itself))
+    sym (ap (λ (d : Decision). sound (d .rec)) planned)
     ∙ transfer-keeps-sound (s .rec) (s .mem) (asked .kind) (asked .byte) (asked .wait) byte (inv .sound) in
-    let next : Inv k (after s (comesTo s asked)) = inv-after k s (comesTo s asked) inv still harmless in
+    let next : Inv k (after s (comesTo s asked)) = inv-after k s (comesTo s asked) inv still same harmless in
     safe-more k Q s asked plan
     (λ t sent.
     let is : decidedOf s t ≡ comesTo s asked = as-planned k s asked t inv good over sent in (

@@ -12,6 +12,7 @@ use lib.Seq.{drop-cons}
 use borrow.Author.Tests.{ltb-true}
 use Rattle.controller.proofs.Laws.Choice.{and-left, and-right}
 use Rattle.controller.specs.Cells.{lineLength}
+use Rattle.controller.specs.Oscillator.{inRange}
 use Rattle.planner.specs.declared.wish.Wish.{Wish}
 use Rattle.planner.specs.Plan.{worth}
 use Rattle.planner.specs.Wish.{isWish, marksFit}
@@ -34,12 +35,18 @@ unfolding isWish
 wish-shift wish marks is =
     ltb-true (wish .shift) (lineLength (wish .function .n)) (and-left _ _ (and-right (not (wish .function .n && wish .function .f)) _ is))
 
-pub wish-cursor : (wish : Wish) (marks : List ℕ) → isWish wish marks ≡ true → wish .cursor < 80
+-- what is tested after the shift
+later : (wish : Wish) (marks : List ℕ) → isWish wish marks ≡ true → (ltb (wish .cursor) 80 && (inRange (wish .frequency) && marksFit marks)) ≡ true
 unfolding isWish
+later wish marks is = and-right (ltb (wish .shift) (lineLength (wish .function .n))) _ (and-right (not (wish .function .n && wish .function .f)) _ is)
+
+pub wish-cursor : (wish : Wish) (marks : List ℕ) → isWish wish marks ≡ true → wish .cursor < 80
 wish-cursor wish marks is =
-    let later = and-right (ltb (wish .shift) (lineLength (wish .function .n))) _ (and-right (not (wish .function .n && wish .function .f)) _ is) in
-    let within = ltb-true (wish .cursor) _ (and-left _ _ later) in
+    let within = ltb-true (wish .cursor) _ (and-left _ _ (later wish marks is)) in
     omega (arith, within)
+
+pub wish-frequency : (wish : Wish) (marks : List ℕ) → isWish wish marks ≡ true → inRange (wish .frequency) ≡ true
+wish-frequency wish marks is = and-left _ _ (and-right (ltb (wish .cursor) 80) _ (later wish marks is))
 
 length-small : (n : Bool) → lineLength n ≤ 80
 length-small false = omega arith

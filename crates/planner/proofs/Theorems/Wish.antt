@@ -9,7 +9,7 @@ use lib.Dec.{ltb}
 use lib.ListN.{length}
 use Rattle.controller.proofs.Laws.Choice.{cond-elim, cond-map, and-left, and-right}
 use Rattle.controller.proofs.Laws.Answers.{none-applies, row-applies, tells-as}
-use Rattle.controller.proofs.Laws.Rows.{whole-fails}
+use Rattle.controller.proofs.Laws.Rows.{range-fails, whole-fails}
 use Rattle.controller.proofs.Laws.Tests.{Fails, Tests, fails-and, fails-as, fails-false, fails-le, fails-lt, fails-not, tests-fails, tests-lt}
 use Rattle.controller.specs.Rows.{NotLong}
 use Rattle.controller.specs.Bus.{whole}
@@ -59,7 +59,8 @@ pub wish-fails : (wish : Wish) (marks : List ℕ) → Fails (isWish wish marks) 
 unfolding isWish
 wish-fails wish marks =
     fails-and _ _ (both-fail (wish .function .n) (wish .function .f))
-    (fails-and _ _ (shift-fails (wish .function .n) (wish .shift)) (fails-and _ _ (fails-lt (wish .cursor) 80) (marks-fail marks)))
+    (fails-and _ _ (shift-fails (wish .function .n) (wish .shift)) (fails-and _ _ (fails-lt (wish .cursor) 80)
+    (fails-and _ _ (range-fails (wish .frequency)) (marks-fail marks))))
 
 -- marks or values not 144 long
 pub lengths-fail : (marks values : List ℕ) → Tests (not (whole marks && whole values)) (NotLong marks ⊎ NotLong values)

@@ -69,7 +69,13 @@ end-requires c κs =
     )
 
 same-length : tie.Need-same-length
-same-length c = search needs
+same-length c =
+    let ended = c .before .before in
+    let written = ended .before .before .before .before in
+    let shifted = written .before .before .before .before in
+    let ready = shifted .before .before .before .before in
+    let opened = ready .before .before .before .before in
+    ended .end .kept .0 ∙ written .write-cells .kept .0 ∙ shifted .shift-left .kept .0 ∙ ready .set-up .kept .0 ∙ opened .«open» .kept .0
 
 returns : tie.Need-returns
 unfolding commands

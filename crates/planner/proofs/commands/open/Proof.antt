@@ -30,12 +30,15 @@ sent-alone-requires-4 c κs = search needs
 put-requires-4 : tie.Need-put-requires-4
 put-requires-4 c κs = search needs
 
+times-at-requires : tie.Need-times-at-requires
+times-at-requires c κs = search needs
+
 same-length : tie.Need-same-length
 same-length c = search needs
 
 returns : tie.Need-returns
 unfolding encoded
-returns c = simp (c .before .before .put4 .ensures, c .before .before .before .sent-alone4 .ensures, c .before .before .before .before .before .before .before .put3 .ensures, c .before .before .before .before .before .before .before .before .sent-alone3 .ensures, c .before .before .before .before .before .before .before .before .before .before .before .before .put2 .ensures, c .before .before .before .before .before .before .before .before .before .before .before .before .before .sent-alone2 .ensures, c .before .before .before .before .before .before .before .before .before .before .before .before .before .before .before .before .before .put .ensures, c .before .before .before .before .before .before .before .before .before .before .before .before .before .before .before .before .before .before .sent-alone .ensures) (refl, refl)
+returns c = simp (c .times-at .ensures, c .before .before .before .put4 .ensures, c .before .before .before .before .sent-alone4 .ensures, c .before .before .before .before .before .before .before .before .put3 .ensures, c .before .before .before .before .before .before .before .before .before .sent-alone3 .ensures, c .before .before .before .before .before .before .before .before .before .before .before .before .before .put2 .ensures, c .before .before .before .before .before .before .before .before .before .before .before .before .before .before .sent-alone2 .ensures, c .before .before .before .before .before .before .before .before .before .before .before .before .before .before .before .before .before .before .put .ensures, c .before .before .before .before .before .before .before .before .before .before .before .before .before .before .before .before .before .before .before .sent-alone .ensures) (refl, refl)
 
 pub open-spec : {M : Type 1} → statement M
 open-spec =
@@ -49,5 +52,6 @@ open-spec =
     put-requires-3
     sent-alone-requires-4
     put-requires-4
+    times-at-requires
     same-length
     returns)

@@ -14,8 +14,8 @@ use borrow.Author.Needs.{needs}
 use Rattle.planner.proofs.pen.send.Statement.{statement}
 use Rattle.planner.proofs.pen.send.Tie as tie
 
-mul-t10 : tie.Need-mul-t10
-mul-t10 c = search needs
+mul-t11 : tie.Need-mul-t11
+mul-t11 c = search needs
 
 put-requires : tie.Need-put-requires
 put-requires c κs = search needs
@@ -23,14 +23,14 @@ put-requires c κs = search needs
 add-put : tie.Need-add-put
 add-put c = search needs
 
-mul-t10-2 : tie.Need-mul-t10-2
-mul-t10-2 c = search needs
+mul-t11-2 : tie.Need-mul-t11-2
+mul-t11-2 c = search needs
 
 put-requires-2 : tie.Need-put-requires-2
 put-requires-2 c κs = search needs
 
-add-t14 : tie.Need-add-t14
-add-t14 c = search needs
+add-t15 : tie.Need-add-t15
+add-t15 c = search needs
 
 time-of-requires : tie.Need-time-of-requires
 time-of-requires c κs = search needs
@@ -41,11 +41,12 @@ same-length c = search needs
 returns : tie.Need-returns
 unfolding inHalves timeAfter encoded
 returns c =
-    let start = c .before .before .before .before .before .before .before .before .before .before in
+    let start = c .before .before .before .before .before .before .before .before .before .before .before in
     let command : Command = record { kind = start .args .kind; byte = start .args .byte } in
     record {
       at = refl;
       wait = c .time-of .ensures;
+      times = refl;
       buffer =
           c .before .before .before .put2 .ensures
           ∙ ap (λ (l : List ℕ). sets l ((start .args .pen .at + 1) * 6) (sixBytes (secondSent command)))
@@ -58,12 +59,12 @@ pub send-spec : {M : Type 1} → statement M
 send-spec =
     tie.close
     (tie.spec
-    mul-t10
+    mul-t11
     put-requires
     add-put
-    mul-t10-2
+    mul-t11-2
     put-requires-2
-    add-t14
+    add-t15
     time-of-requires
     same-length
     returns)
