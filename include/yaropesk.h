@@ -57,6 +57,13 @@
 #define YAROPESK_LINE_2_START 40  /* where line 2 begins, with N=1 */
 #define YAROPESK_PATTERN_START 80 /* where pattern cell 0 stands */
 
+/* The frequency of the oscillator that is fitted, in kHz: its range, and the two named module kinds. In a record and in a
+ * wish it is two bytes, little-endian. */
+#define YAROPESK_KHZ_LEAST 190
+#define YAROPESK_KHZ_MOST 350
+#define YAROPESK_KHZ_OLDER 250
+#define YAROPESK_KHZ_NEWER 270
+
 /* A record: where each byte stands, and what it holds in a sound record. Any other length or value is unsound.
  * A half waits only at width 4, and only with busy 0, unless it is a status read's. */
 #define YAROPESK_RECORD_WIDTH 0          /* 8 or 4 */
@@ -76,7 +83,8 @@
 #define YAROPESK_RECORD_HALF_VALUE 14    /* no half: 0; a write's: 0 to 15, its high four bits; a read's: its whole byte */
                                          /* 15 is zero */
 #define YAROPESK_RECORD_BUSY 16          /* 16 to 19, little-endian: 0 to 10,000 */
-                                         /* 20 to 23 are zero */
+#define YAROPESK_RECORD_FREQUENCY 20     /* 20 and 21, little-endian: 190 to 350 */
+                                         /* 22 and 23 are zero */
 
 #define YAROPESK_COUNTER_DISPLAY 0
 #define YAROPESK_COUNTER_PATTERN 1
@@ -99,30 +107,32 @@
 #define YAROPESK_TRANSFER_WAIT 2 /* 2 to 5, little-endian: the time since the transfer before */
 
 /* A wish: where each byte stands, and what it may hold. Any other length or value is no wish, and N=1 with F=1 is none. */
-#define YAROPESK_WISH_N 0      /* 0 or 1, as are F to S, each as in a record */
+#define YAROPESK_WISH_N 0         /* 0 or 1, as are F to S, each as in a record */
 #define YAROPESK_WISH_F 1
 #define YAROPESK_WISH_D 2
 #define YAROPESK_WISH_C 3
 #define YAROPESK_WISH_B 4
 #define YAROPESK_WISH_ID 5
 #define YAROPESK_WISH_S 6
-#define YAROPESK_WISH_SHIFT 7  /* with N=0 0 to 79, with N=1 0 to 39 */
-#define YAROPESK_WISH_CURSOR 8 /* the cursor's display cell, 0 to 79 */
-                               /* 9 to 15 are zero */
+#define YAROPESK_WISH_SHIFT 7     /* with N=0 0 to 79, with N=1 0 to 39 */
+#define YAROPESK_WISH_CURSOR 8    /* the cursor's display cell, 0 to 79 */
+#define YAROPESK_WISH_FREQUENCY 9 /* 9 and 10, little-endian: that of the module, 190 to 350 */
+                                  /* 11 to 15 are zero */
 
 #ifdef __cplusplus
 extern "C" {
 #endif
 
-/* Power on. Any 24 bytes will do for the record; it becomes width 8, I/D 1, busy 10,000, and all else 0. Display cells
- * become 20h, pattern cells stay.
+/* Power on. Any 24 bytes will do for the record; it becomes width 8, I/D 1, busy 10,000, and all else 0, but for the
+ * frequency: one in range stays, and any other becomes 250. Display cells become 20h, pattern cells stay.
  * Answers: 1 (only for a record that is not 24 bytes), 2, or 0. The value is 0. */
 uint32_t yaropesk_reset(uint8_t *record, size_t record_length, uint8_t *memory, size_t memory_length);
 
 /* One bus transfer: its kind, its byte, 0 for a read, and the wait since the transfer before it.
  * First the wait comes off busy, not below 0. If then no half waits and busy is above 0, all but a status read is answered
  * 4. When done, Clear and Home leave busy at 1,640, other instructions, data writes and data reads at 40, a status read as
- * it is.
+ * it is. So at 250 kHz; at another frequency each time is taken times 250, divided by the frequency and rounded up: 1,519
+ * and 38 at 270. No transfer alters the frequency.
  * At width 8 a transfer is complete at once. At width 4 it takes two calls, one for each half, the high one first. Halves
  * travel in bits 7 to 4, in what is sent and in what is read: 41h is sent as 40h, then 10h. Bits 3 to 0 do not count in
  * what is sent, and are 0 in what is read. The first call is answered 5. If the second is of another kind, the first one's
@@ -139,8 +149,8 @@ uint32_t yaropesk_picture(const uint8_t *record, size_t record_length, const uin
                           uint8_t columns, uint8_t lines, uint8_t lit, uint8_t *out, size_t out_length);
 
 /* The plan of a wish: the transfers, six bytes each, that bring a panel into the wished state. A mark, 1 or 0 for each of
- * the 144 cells, says whether to write the cell; its value, read only where marked, says what. The output is at least 2,808
- * bytes, however short the plan.
+ * the 144 cells, says whether to write the cell; its value, read only where marked, says what. The waits follow the wish's
+ * frequency. The output is at least 2,808 bytes, however short the plan.
  * Answers: 2, 13, 11, or 0. The value is the count of transfers.
  *
  * How to send it. The waits are the least allowed: wait as long or longer. A run may be stopped after any transfer, and
@@ -148,11 +158,12 @@ uint32_t yaropesk_picture(const uint8_t *record, size_t record_length, const uin
  * last run finish. The first transfer of a run may be answered 6, 7 or 8, where it completes a half that was left waiting:
  * go on. All other transfers are answered 0 or 5.
  *
- * What it guarantees, from any sound record and any bytes in the memory. No transfer is answered 4. At the end the record
- * is as wished: width 4, N to S and the shift as in the wish, the counter on the cursor's display cell, the register fresh
- * with that cell's byte, no half, busy 40. Every marked cell holds its value. Every other cell holds what it held before
- * the first run, with one exception: if a data write's half was waiting then, the cell that the counter was on gets that
- * half as its high four bits, and 3h below. */
+ * What it guarantees, from any sound record whose frequency is the wish's or higher, and any bytes in the memory; so a
+ * plan for 190 kHz serves on every module. No transfer is answered 4. At the end the record is as wished: width 4, N to S
+ * and the shift as in the wish, the counter on the cursor's display cell, the register fresh with that cell's byte, no
+ * half, busy 40 or what that is at the record's frequency. Every marked cell holds its value. Every other cell holds what
+ * it held before the first run, with one exception: if a data write's half was waiting then, the cell that the counter was
+ * on gets that half as its high four bits, and 3h below. */
 uint32_t yaropesk_plan(const uint8_t *wish, size_t wish_length, const uint8_t *marks, size_t marks_length,
                        const uint8_t *values, size_t values_length, uint8_t *out, size_t out_length);
 

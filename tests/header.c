@@ -1,5 +1,6 @@
 /* What include/yaropesk.h says is so, tried by calling the library: its sizes, answers and kinds, where each byte stands, what
- * a sound record is, what the transfers of a plan may be answered, and captures. Compiles as C99 and as C++98.
+ * a sound record is, the times at each frequency, what the transfers of a plan may be answered, and captures. Compiles as C99
+ * and as C++98.
  * Prints a line for each check that fails, then 'N passed, M failed', and fails where M is not 0. */
 #include <stdio.h>
 #include <string.h>
@@ -55,6 +56,12 @@ static uint32_t picture(unsigned columns, unsigned lines, size_t out_length) {
                             out, out_length);
 }
 
+/* A frequency, as its two bytes. */
+static void put_khz(uint8_t *at, unsigned khz) {
+    at[0] = (uint8_t)(khz % 256);
+    at[1] = (uint8_t)(khz / 256);
+}
+
 /* A controller after a reset, its pattern cells 00h. */
 static void start(void) {
     memset(memory, 0, sizeof memory);
@@ -62,7 +69,13 @@ static void start(void) {
     reset(YAROPESK_RECORD_SIZE, YAROPESK_MEMORY_SIZE);
 }
 
-/* The same at width 4. */
+/* The same where this oscillator is fitted. */
+static void start_at(unsigned khz) {
+    start();
+    put_khz(record + YAROPESK_RECORD_FREQUENCY, khz);
+}
+
+/* The first at width 4. */
 static void start_narrow(void) {
     start();
     sent(YAROPESK_INSTRUCTION_WRITE, 0x20);
@@ -177,6 +190,7 @@ static void try_record(void) {
     want[YAROPESK_RECORD_WIDTH] = 8;
     want[YAROPESK_RECORD_ID] = 1;
     memcpy(want + YAROPESK_RECORD_BUSY, "\x10\x27\x00\x00", 4);
+    put_khz(want + YAROPESK_RECORD_FREQUENCY, YAROPESK_KHZ_OLDER);
     check("record after reset", 0, memcmp(record, want, sizeof want) == 0);
     memcpy(want + YAROPESK_RECORD_BUSY, "\x28\x00\x00\x00", 4);
     for (unsigned i = 0; i < sizeof rows / sizeof rows[0]; i++) {
@@ -245,7 +259,7 @@ static void try_range(const char *what, unsigned place, unsigned least, unsigned
 static void try_sound_bytes(void) {
     static const uint8_t bits[] = {YAROPESK_RECORD_N, YAROPESK_RECORD_F,  YAROPESK_RECORD_D, YAROPESK_RECORD_C,
                                    YAROPESK_RECORD_B, YAROPESK_RECORD_ID, YAROPESK_RECORD_S, YAROPESK_RECORD_FRESH};
-    static const uint8_t zeros[] = {15, 20, 21, 22, 23};
+    static const uint8_t zeros[] = {15, 22, 23};
     start();
     for (unsigned i = 0; i < sizeof bits; i++)
         try_range("bit", bits[i], 0, 1);
@@ -336,7 +350,7 @@ static void try_too_much(const char *what, uint8_t *byte, unsigned value) {
 static void try_wish_ranges(void) {
     for (unsigned i = YAROPESK_WISH_N; i <= YAROPESK_WISH_S; i++)
         try_too_much("wish bit", wish + i, 2);
-    for (unsigned i = YAROPESK_WISH_CURSOR + 1; i < YAROPESK_WISH_SIZE; i++)
+    for (unsigned i = YAROPESK_WISH_FREQUENCY + 2; i < YAROPESK_WISH_SIZE; i++)
         try_too_much("wish zero", wish + i, 1);
     try_too_much("wish cursor", wish + YAROPESK_WISH_CURSOR, 80);
     try_too_much("wish shift with N=0", wish + YAROPESK_WISH_SHIFT, 80);
@@ -375,6 +389,70 @@ static void try_restarts(void) {
     for (uint32_t cut = 0; cut <= count; cut++)
         told |= play(cut);
     check("answers of a plan's transfers", told, told == (taken << 16 | taken | besides));
+}
+
+/* The frequencies: which are sound, which may be wished for, and which a reset keeps. */
+static void try_frequencies(void) {
+    int sound = 1, wished = 1, kept = 1;
+    uint8_t older[2];
+    put_khz(older, YAROPESK_KHZ_OLDER);
+    start();
+    for (unsigned khz = 0; khz < 65536; khz++) {
+        int in_range = YAROPESK_KHZ_LEAST <= khz && khz <= YAROPESK_KHZ_MOST;
+        uint8_t was[2];
+        put_khz(was, khz);
+        put_khz(record + YAROPESK_RECORD_FREQUENCY, khz);
+        put_khz(wish + YAROPESK_WISH_FREQUENCY, khz);
+        sound = sound && picture(1, 1, 8) == (uint32_t)(in_range ? YAROPESK_DONE : YAROPESK_UNSOUND);
+        wished = wished && YAROPESK_ANSWER(plan_all()) == (uint32_t)(in_range ? YAROPESK_DONE : YAROPESK_NOT_WISH);
+        reset(YAROPESK_RECORD_SIZE, YAROPESK_MEMORY_SIZE);
+        kept = kept && memcmp(record + YAROPESK_RECORD_FREQUENCY, in_range ? was : older, 2) == 0;
+    }
+    put_khz(wish + YAROPESK_WISH_FREQUENCY, YAROPESK_KHZ_OLDER);
+    check("sound frequencies", 0, sound);
+    check("wished frequencies", 0, wished);
+    check("frequencies after a reset", 0, kept);
+}
+
+/* The busy time that this instruction leaves at this frequency. */
+static unsigned busy_after(unsigned instruction, unsigned khz) {
+    start_at(khz);
+    sent(YAROPESK_INSTRUCTION_WRITE, instruction);
+    return record[YAROPESK_RECORD_BUSY] + 256u * record[YAROPESK_RECORD_BUSY + 1];
+}
+
+/* The times: the least whole ones that reach far enough, and those that the header names. */
+static void try_times(void) {
+    static const struct {
+        unsigned instruction, time;
+    } rows[] = {{0x01, 1640}, {0x02, 1640}, {0x00, 40}, {0x80, 40}};
+    for (unsigned i = 0; i < sizeof rows / sizeof rows[0]; i++) {
+        int least = 1;
+        for (unsigned khz = YAROPESK_KHZ_LEAST; khz <= YAROPESK_KHZ_MOST; khz++) {
+            unsigned busy = busy_after(rows[i].instruction, khz);
+            least = least && busy * khz >= rows[i].time * 250 && (busy - 1) * khz < rows[i].time * 250;
+        }
+        check("least time of instruction", rows[i].instruction, least);
+    }
+    check("older module", 0, busy_after(0x01, YAROPESK_KHZ_OLDER) == 1640 && busy_after(0x06, YAROPESK_KHZ_OLDER) == 40);
+    check("newer module", 0, busy_after(0x01, YAROPESK_KHZ_NEWER) == 1519 && busy_after(0x06, YAROPESK_KHZ_NEWER) == 38);
+}
+
+/* A plan for the lowest frequency serves on every module, and one for the highest not on the slowest. */
+static void try_slower_plan(void) {
+    int served = 1;
+    put_khz(wish + YAROPESK_WISH_FREQUENCY, YAROPESK_KHZ_LEAST);
+    uint32_t count = YAROPESK_VALUE(plan_all());
+    for (unsigned khz = YAROPESK_KHZ_LEAST; khz <= YAROPESK_KHZ_MOST; khz++) {
+        start_at(khz);
+        served = served && (play(count) >> (16 + YAROPESK_BUSY) & 1) == 0;
+    }
+    check("plan for the lowest frequency", 0, served);
+    put_khz(wish + YAROPESK_WISH_FREQUENCY, YAROPESK_KHZ_MOST);
+    count = YAROPESK_VALUE(plan_all());
+    start_at(YAROPESK_KHZ_LEAST);
+    check("plan for the highest frequency", 0, (play(count) >> (16 + YAROPESK_BUSY) & 1) == 1);
+    put_khz(wish + YAROPESK_WISH_FREQUENCY, YAROPESK_KHZ_OLDER);
 }
 
 /* The one exception: a cell that the wish does not name gets the half that waits for it, and 3h below. All others stay. */
@@ -462,6 +540,7 @@ static void try_longest_session(void) {
 }
 
 int main(void) {
+    put_khz(wish + YAROPESK_WISH_FREQUENCY, YAROPESK_KHZ_OLDER);
     try_lent_sizes();
     try_output_sizes();
     try_lines();
@@ -474,6 +553,9 @@ int main(void) {
     try_wish();
     try_wish_ranges();
     try_restarts();
+    try_frequencies();
+    try_times();
+    try_slower_plan();
     try_exception();
     try_import();
     try_import_refusals();

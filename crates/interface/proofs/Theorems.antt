@@ -2,3 +2,4 @@ pub mod Record
 pub mod Wish
 pub mod Refusals
 pub mod Answers
+pub mod Frequency

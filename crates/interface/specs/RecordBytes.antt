@@ -2,11 +2,12 @@
 -- Assumes nothing.
 use mathlib.Core.Bool.{Bool, true, false, cond, _&&_}
 use mathlib.Core.List.{List, [], _∷_, _++_}
-use Prim.Native.Nat.{ℕ}
+use Prim.Native.Nat.{ℕ, _+_, _*_, _/_, _%_}
 use lib.Dec.{eqb}
 use lib.ListN.{length, getD}
 use Rattle.controller.specs.declared.cells.Counter.{Counter}
 use Rattle.controller.specs.declared.cells.Counter.the-variants.{Display, Pattern}
+use Rattle.controller.specs.declared.oscillator.Frequency.{Frequency}
 use Rattle.controller.specs.declared.«record».Half.{Half}
 use Rattle.controller.specs.declared.«record».Half.the-variants.{Empty, InstructionWrite, DataWrite, StatusRead, DataRead}
 use Rattle.controller.specs.declared.«record».Record.{Record}
@@ -44,8 +45,16 @@ valueByte (DataWrite high) = high
 valueByte (StatusRead byte) = byte
 valueByte (DataRead byte) = byte
 
+-- A frequency in kHz as two bytes, little-endian: the lower,
+abbrev pub lowByte : Frequency → ℕ
+lowByte frequency = frequency .khz % 256
+
+-- and the higher.
+abbrev pub highByte : Frequency → ℕ
+highByte frequency = frequency .khz / 256
+
 -- The 24 bytes of a record: width, N, F, D, C, B, I/D, S, shift, the counter's memory and cell, register, fresh, the half and its
--- value, a zero, busy little-endian, and four zeros.
+-- value, a zero, busy little-endian, the frequency little-endian, and two zeros.
 unfoldable pub recordBytes : Record → List ℕ
 recordBytes rec =
     widthByte (rec .wide)
@@ -57,11 +66,15 @@ recordBytes rec =
     ∷ rec .reg ∷ bitByte (rec .fresh)
     ∷ halfByte (rec .half) ∷ valueByte (rec .half)
     ∷ 0
-    ∷ (littleEndian (rec .busy) ++ (0 ∷ 0 ∷ 0 ∷ 0 ∷ []))
+    ∷ (littleEndian (rec .busy) ++ (lowByte (rec .frequency) ∷ highByte (rec .frequency) ∷ 0 ∷ 0 ∷ []))
 
 -- The counter of these two bytes.
 abbrev pub counterFrom : ℕ → ℕ → Counter
 counterFrom memory cell = cond (eqb memory 1) (Pattern cell) (Display cell)
+
+-- The frequency of these two bytes.
+abbrev pub frequencyFrom : ℕ → ℕ → Frequency
+frequencyFrom low high = record { khz = low + 256 * high }
 
 -- The half of these two bytes.
 abbrev pub halfFrom : ℕ → ℕ → Half
@@ -85,6 +98,7 @@ recordFrom bytes =
       reg = getD bytes 11 0;
       fresh = eqb (getD bytes 12 0) 1;
       busy = numberFrom (getD bytes 16 0) (getD bytes 17 0) (getD bytes 18 0) (getD bytes 19 0);
+      frequency = frequencyFrom (getD bytes 20 0) (getD bytes 21 0);
       half = halfFrom (getD bytes 13 0) (getD bytes 14 0);
     }
 

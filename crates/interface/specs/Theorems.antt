@@ -3,10 +3,11 @@
 -- Assumes nothing.
 use mathlib.Core.Bool.{true, cond, _||_}
 use mathlib.Core.List.{List, [], _∷_}
+use mathlib.Core.Logic.{_⊎_}
 use mathlib.Core.Path.{_≡_}
-use Prim.Native.Nat.{ℕ, _+_, _*_, _%_, _<_}
+use Prim.Native.Nat.{ℕ, _+_, _*_, _%_, _<_, _≤_}
 use lib.Dec.{eqb}
-use lib.ListN.{length}
+use lib.ListN.{length, getD}
 use Rattle.controller.specs.declared.answers.Answer.{Answer}
 use Rattle.controller.specs.declared.«record».Record.{Record}
 use Rattle.controller.specs.Answers.{isRefusal, numberOf, Row, Tells}
@@ -47,6 +48,28 @@ WishReadsBack = (wish : Wish) → wishIn (wishBytes wish) ≡ ReadWish.Is wish
 -- Bytes that say a wish are its bytes.
 abbrev pub WishWritesBack : Type 0
 WishWritesBack = (bytes : List ℕ) (wish : Wish) → wishIn bytes ≡ ReadWish.Is wish → wishBytes wish ≡ bytes
+
+-- The frequency that these two bytes say, the lower first.
+abbrev pub saysKhz : List ℕ → ℕ → ℕ → ℕ
+saysKhz bytes low high = getD bytes low 0 + 256 * getD bytes high 0
+
+-- A record's frequency stands in bytes 20 and 21, and a wish's in 9 and 10.
+pub record FrequencySaid : Type 0 where
+  pub record-says : (bytes : List ℕ) (rec : Record) → recordIn bytes ≡ Is rec → rec .frequency .khz ≡ saysKhz bytes 20 21
+  pub wish-says : (bytes : List ℕ) (wish : Wish) → wishIn bytes ≡ ReadWish.Is wish → wish .frequency .khz ≡ saysKhz bytes 9 10
+
+-- Whatever else its 24 bytes say, `yaropesk_reset` leaves there a frequency in range as it was, and FAh and 00h, which is 250, for
+-- any other.
+pub record ResetSays (bytes mem : List ℕ) : Type 0 where
+  pub kept : 190 ≤ saysKhz bytes 20 21 → saysKhz bytes 20 21 ≤ 350
+      → (getD (resetCall bytes mem .rec) 20 0 ≡ getD bytes 20 0) × (getD (resetCall bytes mem .rec) 21 0 ≡ getD bytes 21 0)
+  pub put : (saysKhz bytes 20 21 < 190) ⊎ (350 < saysKhz bytes 20 21)
+      → (getD (resetCall bytes mem .rec) 20 0 ≡ 0xFA) × (getD (resetCall bytes mem .rec) 21 0 ≡ 0x00)
+
+-- So with every record and memory of the right length.
+abbrev pub ResetLeavesFrequency : Type 0
+ResetLeavesFrequency =
+    (bytes mem : List ℕ) → length bytes ≡ 24 → length mem ≡ 144 → getD bytes 20 0 < 256 → ResetSays bytes mem
 
 -- The answer's number in what a call returns. Above it stands 256 times a byte, a count or a length, and for a line 65,536 times
 -- the offset of its fault.

@@ -8,16 +8,17 @@ use lib.ListN.{length, getD}
 use Rattle.planner.specs.declared.wish.Wish.{Wish}
 use Rattle.interface.specs.declared.wish_bytes.ReadWish.{ReadWish}
 use Rattle.interface.specs.declared.wish_bytes.ReadWish.the-variants.{Is, Broken}
-use Rattle.interface.specs.RecordBytes.{bitByte, sameBytes}
+use Rattle.interface.specs.RecordBytes.{bitByte, frequencyFrom, highByte, lowByte, sameBytes}
 
--- The 16 bytes of a wish: N, F, D, C, B, I/D, S, shift, cursor, and seven zeros.
+-- The 16 bytes of a wish: N, F, D, C, B, I/D, S, shift, cursor, the frequency little-endian, and five zeros.
 unfoldable pub wishBytes : Wish → List ℕ
 wishBytes wish =
     bitByte (wish .function .n) ∷ bitByte (wish .function .f)
     ∷ bitByte (wish .control .d) ∷ bitByte (wish .control .c) ∷ bitByte (wish .control .b)
     ∷ bitByte (wish .entry .id) ∷ bitByte (wish .entry .s)
     ∷ wish .shift ∷ wish .cursor
-    ∷ 0 ∷ 0 ∷ 0 ∷ 0 ∷ 0 ∷ 0 ∷ 0 ∷ []
+    ∷ lowByte (wish .frequency) ∷ highByte (wish .frequency)
+    ∷ 0 ∷ 0 ∷ 0 ∷ 0 ∷ 0 ∷ []
 
 -- The wish that 16 bytes say if they say one: a bit above 1 is read as 0.
 abbrev pub wishFrom : List ℕ → Wish
@@ -28,6 +29,7 @@ wishFrom bytes =
       entry = record { id = eqb (getD bytes 5 0) 1; s = eqb (getD bytes 6 0) 1 };
       shift = getD bytes 7 0;
       cursor = getD bytes 8 0;
+      frequency = frequencyFrom (getD bytes 9 0) (getD bytes 10 0);
     }
 
 -- The wish if these bytes are its own.

@@ -68,7 +68,7 @@ pub extern "C" fn yaropesk_transfer(
     }
 }
 
-// A reset over 24 bytes, whatever they say.
+// A reset over 24 bytes, whatever they say: of that only a frequency in range is kept.
 fn reset_from(bytes: &mut [u8], memory: &mut [u8]) -> u32
     requires { ⌜ length (now bytes) ≡ 24 ⌝ }
     ensures { λ r.

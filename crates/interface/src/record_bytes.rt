@@ -1,11 +1,13 @@
 // A controller's record as 24 bytes.
 ghost use mathlib.Core.Path.{_≡_};
 ghost use lib.ListN.{length};
-ghost use Rattle.interface.specs.RecordBytes.{bitByte, counterFrom, halfByte, halfFrom, isRecordLong, memoryByte};
-ghost use Rattle.interface.specs.RecordBytes.{recordBytes, recordFrom, recordAs, recordIn, valueByte, widthByte};
+ghost use Rattle.interface.specs.RecordBytes.{bitByte, counterFrom, frequencyFrom, halfByte, halfFrom, highByte};
+ghost use Rattle.interface.specs.RecordBytes.{isRecordLong, lowByte, memoryByte, recordBytes, recordFrom, recordAs};
+ghost use Rattle.interface.specs.RecordBytes.{recordIn, valueByte, widthByte};
 use controller::Control;
 use controller::Counter;
 use controller::Entry;
+use controller::Frequency;
 use controller::Function;
 use controller::Half;
 use controller::Record;
@@ -70,12 +72,26 @@ fn value_byte(half: Half) -> u8
     }
 }
 
+// A frequency as two bytes, the lower first.
+pub fn low_byte(frequency: Frequency) -> u8
+    ensures { λ r. ⌜ r ≡ lowByte frequency ⌝ }
+{
+    (frequency.khz % 256) as u8
+}
+
+pub fn high_byte(frequency: Frequency) -> u8
+    ensures { λ r. ⌜ r ≡ highByte frequency ⌝ }
+{
+    (frequency.khz / 256) as u8
+}
+
 // The 24 bytes of a record.
 fn bytes_of(rec: Record) -> [u8; 24]
     ensures { λ r. ⌜ r ≡ recordBytes rec ⌝ }
 {
     let counter = rec.counter;
     let half = rec.half;
+    let frequency = rec.frequency;
     let busy = little_endian(rec.busy);
     [
         width_byte(rec.wide),
@@ -98,8 +114,8 @@ fn bytes_of(rec: Record) -> [u8; 24]
         busy[1],
         busy[2],
         busy[3],
-        0,
-        0,
+        low_byte(frequency),
+        high_byte(frequency),
         0,
         0,
     ]
@@ -112,6 +128,14 @@ fn counter_from(memory: u8, cell: u8) -> Counter
         return Counter::Pattern(cell);
     }
     Counter::Display(cell)
+}
+
+pub fn frequency_from(low: u8, high: u8) -> Frequency
+    ensures { λ r. ⌜ r ≡ frequencyFrom low high ⌝ }
+{
+    Frequency {
+        khz: low as u16 + 256 * high as u16,
+    }
 }
 
 fn half_from(half: u8, value: u8) -> Half
@@ -157,6 +181,7 @@ pub fn record_from(bytes: &[u8]) -> Record
         reg: bytes[11],
         fresh: bytes[12] == 1,
         busy: number_from(bytes[16], bytes[17], bytes[18], bytes[19]),
+        frequency: frequency_from(bytes[20], bytes[21]),
         half: half_from(bytes[13], bytes[14]),
     }
 }

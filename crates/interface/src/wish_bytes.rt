@@ -3,6 +3,9 @@ ghost use mathlib.Core.Path.{_≡_};
 ghost use lib.ListN.{length};
 ghost use Rattle.interface.specs.WishBytes.{wishAs, wishBytes, wishFrom, wishIn};
 use crate::record_bytes::bit_byte;
+use crate::record_bytes::frequency_from;
+use crate::record_bytes::high_byte;
+use crate::record_bytes::low_byte;
 use controller::Control;
 use controller::Entry;
 use controller::Function;
@@ -18,6 +21,7 @@ pub enum ReadWish {
 fn wish_bytes_of(wish: Wish) -> [u8; 16]
     ensures { λ r. ⌜ r ≡ wishBytes wish ⌝ }
 {
+    let frequency = wish.frequency;
     [
         bit_byte(wish.function.n),
         bit_byte(wish.function.f),
@@ -28,8 +32,8 @@ fn wish_bytes_of(wish: Wish) -> [u8; 16]
         bit_byte(wish.entry.s),
         wish.shift,
         wish.cursor,
-        0,
-        0,
+        low_byte(frequency),
+        high_byte(frequency),
         0,
         0,
         0,
@@ -59,6 +63,7 @@ fn wish_from(bytes: &[u8]) -> Wish
         },
         shift: bytes[7],
         cursor: bytes[8],
+        frequency: frequency_from(bytes[9], bytes[10]),
     }
 }
 

@@ -7,7 +7,7 @@ use Rattle.interface.specs.WishBytes.{wishAs, wishBytes, wishFrom, wishI
 use Rattle.interface.specs.Theorems.{WishReadsBack, WishWritesBack}
 use Rattle.interface.proofs.Laws.Read.{wish-own}
 use Rattle.interface.proofs.Laws.Same.{same-refl}
-use Rattle.interface.proofs.Theorems.Record.{bit-back}
+use Rattle.interface.proofs.Theorems.Record.{bit-back, frequency-back}
 
 wish-length : (wish : Wish) → length (wishBytes wish) ≡ 16
 unfolding wishBytes
@@ -15,7 +15,7 @@ wish-length wish = refl
 
 wish-back : (wish : Wish) → wishFrom (wishBytes wish) ≡ wish
 unfolding wishBytes
-wish-back wish = simp bit-back
+wish-back wish = simp (bit-back, frequency-back)
 
 pub wish-reads-back : WishReadsBack
 unfolding wishIn wishAs

@@ -47,21 +47,27 @@ half-byte-requires c κs = search needs
 value-byte-requires : tie.Need-value-byte-requires
 value-byte-requires c κs = search needs
 
-array-read-t21 : tie.Need-array-read-t21
-array-read-t21 c = search needs
+array-read-t22 : tie.Need-array-read-t22
+array-read-t22 c = search needs
 
-array-read-t24 : tie.Need-array-read-t24
-array-read-t24 c = search needs
+array-read-t25 : tie.Need-array-read-t25
+array-read-t25 c = search needs
 
-array-read-t27 : tie.Need-array-read-t27
-array-read-t27 c = search needs
+array-read-t28 : tie.Need-array-read-t28
+array-read-t28 c = search needs
 
-array-read-t30 : tie.Need-array-read-t30
-array-read-t30 c = search needs
+array-read-t31 : tie.Need-array-read-t31
+array-read-t31 c = search needs
+
+low-byte-requires : tie.Need-low-byte-requires
+low-byte-requires c κs = search needs
+
+high-byte-requires : tie.Need-high-byte-requires
+high-byte-requires c κs = search needs
 
 returns : tie.Need-returns
 unfolding recordBytes
-returns c = simp (c .value-byte .ensures, c .before .half-byte .ensures, c .before .before .bit-byte8 .ensures, c .before .before .before .cell-of .ensures, c .before .before .before .before .memory-byte .ensures, c .before .before .before .before .before .bit-byte7 .ensures, c .before .before .before .before .before .before .bit-byte6 .ensures, c .before .before .before .before .before .before .before .bit-byte5 .ensures, c .before .before .before .before .before .before .before .before .bit-byte4 .ensures, c .before .before .before .before .before .before .before .before .before .bit-byte3 .ensures, c .before .before .before .before .before .before .before .before .before .before .bit-byte2 .ensures, c .before .before .before .before .before .before .before .before .before .before .before .bit-byte .ensures, c .before .before .before .before .before .before .before .before .before .before .before .before .width-byte .ensures, c .before .before .before .before .before .before .before .before .before .before .before .before .before .little-endian .ensures)
+returns c = simp (c .high-byte .ensures, c .before .low-byte .ensures, c .before .before .value-byte .ensures, c .before .before .before .half-byte .ensures, c .before .before .before .before .bit-byte8 .ensures, c .before .before .before .before .before .cell-of .ensures, c .before .before .before .before .before .before .memory-byte .ensures, c .before .before .before .before .before .before .before .bit-byte7 .ensures, c .before .before .before .before .before .before .before .before .bit-byte6 .ensures, c .before .before .before .before .before .before .before .before .before .bit-byte5 .ensures, c .before .before .before .before .before .before .before .before .before .before .bit-byte4 .ensures, c .before .before .before .before .before .before .before .before .before .before .before .bit-byte3 .ensures, c .before .before .before .before .before .before .before .before .before .before .before .before .bit-byte2 .ensures, c .before .before .before .before .before .before .before .before .before .before .before .before .before .bit-byte .ensures, c .before .before .before .before .before .before .before .before .before .before .before .before .before .before .width-byte .ensures, c .before .before .before .before .before .before .before .before .before .before .before .before .before .before .before .little-endian .ensures)
 
 pub bytes-of-spec : {M : Type 1} → statement M
 bytes-of-spec =
@@ -81,8 +87,10 @@ bytes-of-spec =
     bit-byte-requires-8
     half-byte-requires
     value-byte-requires
-    array-read-t21
-    array-read-t24
-    array-read-t27
-    array-read-t30
+    array-read-t22
+    array-read-t25
+    array-read-t28
+    array-read-t31
+    low-byte-requires
+    high-byte-requires
     returns)

@@ -62,6 +62,15 @@ shared-slice-read-number-from-4 c = search needs
 number-from-requires : tie.Need-number-from-requires
 number-from-requires c κs = search needs
 
+shared-slice-read-frequency-from : tie.Need-shared-slice-read-frequency-from
+shared-slice-read-frequency-from c = search needs
+
+shared-slice-read-frequency-from-2 : tie.Need-shared-slice-read-frequency-from-2
+shared-slice-read-frequency-from-2 c = search needs
+
+frequency-from-requires : tie.Need-frequency-from-requires
+frequency-from-requires c κs = search needs
+
 shared-slice-read-half-from : tie.Need-shared-slice-read-half-from
 shared-slice-read-half-from c = search needs
 
@@ -73,7 +82,7 @@ half-from-requires c κs = search needs
 
 returns : tie.Need-returns
 unfolding recordFrom
-returns c = simp (c .half-from .ensures, c .before .before .before .number-from .ensures, c .before .before .before .before .before .before .before .before .before .before .counter-from .ensures)
+returns c = simp (c .half-from .ensures, c .before .before .before .frequency-from .ensures, c .before .before .before .before .before .before .number-from .ensures, c .before .before .before .before .before .before .before .before .before .before .before .before .before .counter-from .ensures)
 
 pub record-from-spec : {M : Type 1} → statement M
 record-from-spec =
@@ -98,6 +107,9 @@ record-from-spec =
     shared-slice-read-number-from-3
     shared-slice-read-number-from-4
     number-from-requires
+    shared-slice-read-frequency-from
+    shared-slice-read-frequency-from-2
+    frequency-from-requires
     shared-slice-read-half-from
     shared-slice-read-half-from-2
     half-from-requires

@@ -26,9 +26,15 @@ bit-byte-requires-6 c κs = search needs
 bit-byte-requires-7 : tie.Need-bit-byte-requires-7
 bit-byte-requires-7 c κs = search needs
 
+low-byte-requires : tie.Need-low-byte-requires
+low-byte-requires c κs = search needs
+
+high-byte-requires : tie.Need-high-byte-requires
+high-byte-requires c κs = search needs
+
 returns : tie.Need-returns
 unfolding wishBytes
-returns c = simp (c .bit-byte7 .ensures, c .before .bit-byte6 .ensures, c .before .before .bit-byte5 .ensures, c .before .before .before .bit-byte4 .ensures, c .before .before .before .before .bit-byte3 .ensures, c .before .before .before .before .before .bit-byte2 .ensures, c .before .before .before .before .before .before .bit-byte .ensures)
+returns c = simp (c .high-byte .ensures, c .before .low-byte .ensures, c .before .before .bit-byte7 .ensures, c .before .before .before .bit-byte6 .ensures, c .before .before .before .before .bit-byte5 .ensures, c .before .before .before .before .before .bit-byte4 .ensures, c .before .before .before .before .before .before .bit-byte3 .ensures, c .before .before .before .before .before .before .before .bit-byte2 .ensures, c .before .before .before .before .before .before .before .before .bit-byte .ensures)
 
 pub wish-bytes-of-spec : {M : Type 1} → statement M
 wish-bytes-of-spec =
@@ -41,4 +47,6 @@ wish-bytes-of-spec =
     bit-byte-requires-5
     bit-byte-requires-6
     bit-byte-requires-7
+    low-byte-requires
+    high-byte-requires
     returns)
