@@ -39,8 +39,8 @@ transferFrom (Is rec) bytes mem kind byte wait = callOf (decided rec mem kind by
 abbrev pub transferCall : List ℕ → List ℕ → ℕ → ℕ → ℕ → Call
 transferCall bytes mem kind byte wait = transferFrom (recordIn bytes) bytes mem kind byte wait
 
--- What `yaropesk_reset` comes to: 1 where there is no place for a record, then 2. Of what the record's bytes say only a frequency in
--- range matters.
+-- What `yaropesk_reset` comes to: 1 where there is no place for a record, then 2. Of what the record's bytes say only a frequency
+-- in range matters.
 unfoldable pub resetCall : List ℕ → List ℕ → Call
 resetCall bytes mem =
     cond (not (isRecordLong bytes)) (refusal Unsound bytes mem)

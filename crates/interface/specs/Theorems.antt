@@ -58,8 +58,8 @@ pub record FrequencySaid : Type 0 where
   pub record-says : (bytes : List ℕ) (rec : Record) → recordIn bytes ≡ Is rec → rec .frequency .khz ≡ saysKhz bytes 20 21
   pub wish-says : (bytes : List ℕ) (wish : Wish) → wishIn bytes ≡ ReadWish.Is wish → wish .frequency .khz ≡ saysKhz bytes 9 10
 
--- Whatever else its 24 bytes say, `yaropesk_reset` leaves there a frequency in range as it was, and FAh and 00h, which is 250, for
--- any other.
+-- Whatever else its 24 bytes say, `yaropesk_reset` leaves there a frequency in range as it was, and FAh and 00h, which is 250,
+-- for any other.
 pub record ResetSays (bytes mem : List ℕ) : Type 0 where
   pub kept : 190 ≤ saysKhz bytes 20 21 → saysKhz bytes 20 21 ≤ 350
       → (getD (resetCall bytes mem .rec) 20 0 ≡ getD bytes 20 0) × (getD (resetCall bytes mem .rec) 21 0 ≡ getD bytes 21 0)

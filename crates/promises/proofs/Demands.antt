@@ -12,6 +12,8 @@ use Rattle.controller.proofs.Theorems.Rules.{data-rules, instruction-rules}
 use Rattle.controller.proofs.Theorems.Rules.{address-set-goes, clear-leaves-rest, function-moves-nothing, read-never-shifts, status-alters-nothing}
 use Rattle.controller.proofs.Theorems.Refusals.{transfer-refusals, loan-refusals, reset-refusals}
 use Rattle.controller.proofs.Theorems.Sound.{transfer-keeps-sound, reset-makes-sound, effects-fit}
+use Rattle.controller.proofs.Theorems.Times.{oscillator-rules}
+use Rattle.controller.specs.declared.oscillator.Frequency.{Frequency}
 use Rattle.controller.specs.Answers.{numberOf}
 use Rattle.drawing.proofs.Theorems.{draw-answers, draw-refusals}
 use Rattle.dots.proofs.Table.{table-rows, table-shapes, table-shows}
@@ -60,9 +62,9 @@ leaves w out none returned after meets refused =
     let empty : w .text ≡ [] = none (λ e. refused (ap (λ (r : Written). numberOf (r .answer)) (meets .told) ∙ e)) in
     (ap (λ (r : Written). r .length) (meets .told) ∙ ap length empty, meets .buffer ∙ ap (λ (t : List ℕ). onto t out) empty)
 
-play-nothing : (text out : List ℕ) → WritesNothing (playing text out)
+play-nothing : (frequency : Frequency) (text out : List ℕ) → WritesNothing (playing frequency text out)
 unfolding playing
-play-nothing text out = wanting-nothing (reportSize text) (report text) out
+play-nothing frequency text out = wanting-nothing (reportSize text) (report frequency text) out
 
 pub demand-1 : Demand1
 demand-1 =
@@ -78,7 +80,7 @@ demand-1 =
       reader = read-or-refused;
       writer = λ kind byte wait out. leaves _ out (writer-nothing kind byte wait out);
       texts = λ size text out. leaves _ out (wanting-nothing size text out);
-      play = λ text out. leaves _ out (play-nothing text out);
+      play = λ frequency text out. leaves _ out (play-nothing frequency text out);
       through = bad-line-ends;
       import = λ capture out. leaves _ out (import-nothing capture out);
       capture = λ session out. leaves _ out (capture-nothing session out);
@@ -122,6 +124,7 @@ demand-2 =
             clear-runs-right = clear-runs-right;
             address-set-goes = address-set-goes;
           };
+      oscillator = oscillator-rules;
       kept = transfer-keeps-sound;
       reset = reset-makes-sound;
       effects = effects-fit;

@@ -44,15 +44,16 @@ each-determined =
       is-bad = λ kind byte. one _;
       is-done = λ answer. one _;
       is-refusal = λ answer. one _;
-      after-reset = one _;
+      after-reset = λ frequency. one _;
       cell-of = λ counter. one _;
       little-endian = λ number. one _;
       number-from = λ first second third fourth. one _;
       six-bytes = λ sent. one _;
       address-set = λ n counter. one _;
       line-length = λ n. one _;
-      short-time = one _;
-      long-time = one _;
+      is-in-range = λ frequency. one _;
+      short-time = λ frequency. one _;
+      long-time = λ frequency. one _;
       picture = λ rec mem size lit out. two _ _ _ (record { told = refl; number = refl; out = refl }) (λ a l is. (is .told, is .out));
       rows-of = λ function. one _;
       is-shown = λ n shift size cell. one _;
@@ -69,8 +70,8 @@ each-determined =
       write-line = λ kind byte wait out. two _ _ _ (record { told = refl; number = refl; buffer = refl }) (λ a l is. (is .told, is .buffer));
       write-row = λ number answer byte busy out. two _ _ _ (record { told = refl; number = refl; buffer = refl }) (λ a l is. (is .told, is .buffer));
       write-header = λ out. two _ _ _ (record { told = refl; number = refl; buffer = refl }) (λ a l is. (is .told, is .buffer));
-      play = λ text out. two _ _ _ (record { told = refl; number = refl; buffer = refl }) (λ a l is. (is .told, is .buffer));
-      play-through = λ text most. one _;
+      play = λ text frequency out. two _ _ _ (record { told = refl; number = refl; buffer = refl }) (λ a l is. (is .told, is .buffer));
+      play-through = λ text frequency most. one _;
       import = λ capture out. two _ _ _ (record { told = refl; number = refl; buffer = refl }) (λ a l is. (is .told, is .buffer));
       capture = λ session out.
           two _ _ _ (record { told = refl; number = refl; buffer = refl }) (λ a l is. (is .told, is .buffer));

@@ -5,6 +5,7 @@ use mathlib.Core.Path.{_≡_}
 use Prim.Native.Nat.{ℕ}
 use Rattle.captures.specs.Import.{importing}
 use Rattle.captures.specs.Made.{capturing}
+use Rattle.controller.specs.declared.oscillator.Frequency.{Frequency}
 use Rattle.controller.specs.HalfRules.{HalfRules}
 use Rattle.controller.specs.Rules.{DataRules, HalvesMakeWhole, InstructionRules}
 use Rattle.controller.specs.Rules.{AddressSetGoes, ClearLeavesRest, ClearRunsRight, FunctionMovesNothing}
@@ -12,6 +13,7 @@ use Rattle.controller.specs.Rules.{ReadNeverShifts, StatusAltersNothing}
 use Rattle.controller.specs.Answers.{numberOf}
 use Rattle.controller.specs.Theorems.{TransferAnswers, TransferKeepsSound, ResetMakesSound, EffectsFit}
 use Rattle.controller.specs.Theorems.{TransferRefusals, LoanRefusals, ResetRefusals}
+use Rattle.controller.specs.Times.{OscillatorRules}
 use Rattle.drawing.specs.Theorems.{DrawRefusals}
 use Rattle.dots.specs.Theorems.{CursorShows, EachByte, EightRows, FAltersNothing, FiveDots, LaterStay, LineShows, OffDark}
 use Rattle.dots.specs.Theorems.{PatternShows, PictureRefusals, PositionDots, SecondLineDark, TableRows, TableShapes, TableShows}
@@ -48,7 +50,7 @@ pub record Demand1 : Type 0 where
   pub reader : ReadOrRefused
   pub writer : (kind byte wait : ℕ) (out : List ℕ) → LeavesBuffer (lineWriting kind byte wait out) out
   pub texts : (size : ℕ) (text out : List ℕ) → LeavesBuffer (wanting size text out) out
-  pub play : (text out : List ℕ) → LeavesBuffer (playing text out) out
+  pub play : (frequency : Frequency) (text out : List ℕ) → LeavesBuffer (playing frequency text out) out
   pub through : BadLineEnds
   pub import : (capture out : List ℕ) → LeavesBuffer (importing capture out) out
   pub capture : (session out : List ℕ) → LeavesBuffer (capturing session out) out
@@ -83,9 +85,9 @@ pub record DotRules : Type 0 where
 
 -- 2. Each bus transfer answers and leaves its controller as set out in document 01: that is the promise of `transfer`, with the
 -- definitions it cites, and here it is said once more. The answers by the table's rows; at width 8 each instruction, write and
--- read field by field; at width 4 by halves. A sound record is kept sound, and every effect within the memory. The dots on the
--- glass are said rule by rule. A session line, once written, reads back as the same transfer, and a line that was read is written
--- out the same.
+-- read field by field; at width 4 by halves; the times at each frequency. A sound record is kept sound, and every effect within
+-- the memory. The dots on the glass are said rule by rule. A session line, once written, reads back as the same transfer, and a
+-- line that was read is written out the same.
 pub record Demand2 : Type 0 where
   pub answers : TransferAnswers
   pub instructions : InstructionRules
@@ -93,6 +95,7 @@ pub record Demand2 : Type 0 where
   pub halves : HalvesMakeWhole
   pub half-rules : HalfRules
   pub named : NamedRules
+  pub oscillator : OscillatorRules
   pub kept : TransferKeepsSound
   pub reset : ResetMakesSound
   pub effects : EffectsFit
@@ -102,7 +105,7 @@ pub record Demand2 : Type 0 where
   pub read : ReadWritesBack
   pub one-reading : OneReading
 
--- 3. Any accepted wish, any sound controller, cut runs as often as you like and a whole one, of what a board reads back from the
--- bytes of the accepted call.
+-- 3. Any accepted wish, any sound controller of the wish's frequency, cut runs as often as you like and a whole one, of what a
+-- board reads back from the bytes of the accepted call.
 abbrev pub Demand3 : Type 0
 Demand3 = PlannedRuns

@@ -10,6 +10,7 @@ use Rattle.controller.specs.declared.cells.Counter.{Counter}
 use Rattle.controller.specs.declared.answers.Answer.{Answer}
 use Rattle.controller.specs.declared.decision.Outcome.{Outcome}
 use Rattle.controller.specs.declared.loan.Told.{Told}
+use Rattle.controller.specs.declared.oscillator.Frequency.{Frequency}
 use Rattle.controller.specs.declared.sent.Sent.{Sent}
 use Rattle.controller.specs.declared.«record».Record.{Record}
 use Rattle.controller.specs.declared.«record».Function.{Function}
@@ -26,7 +27,7 @@ use Rattle.captures.specs.declared.faults.Wrong.{Wrong}
 use Rattle.controller.specs.Promises.{TransferPromise, TransferInPromise, ResetPromise, IsSoundPromise, NumberPromise}
 use Rattle.controller.specs.Promises.{IsWholePromise, IsBadPromise, IsDonePromise, IsRefusalPromise, AfterResetPromise}
 use Rattle.controller.specs.Promises.{AddressSetPromise, CellOfPromise, LittleEndianPromise, NumberFromPromise, SixBytesPromise}
-use Rattle.controller.specs.Promises.{LineLengthPromise, ShortTimePromise, LongTimePromise}
+use Rattle.controller.specs.Promises.{LineLengthPromise, IsInRangePromise, ShortTimePromise, LongTimePromise}
 use Rattle.drawing.specs.Promises.{DrawPromise}
 use Rattle.dots.specs.Promises.{PicturePromise, RowsOfPromise, IsShownPromise}
 use Rattle.interface.specs.Promises.{YaropeskResetPromise, YaropeskTransferPromise, YaropeskPicturePromise, YaropeskPlanPromise}
@@ -54,15 +55,16 @@ pub record EachDetermined : Type 0 where
   pub is-bad : (kind byte : ℕ) → ExactlyOne (λ (x : Bool). IsBadPromise kind byte x)
   pub is-done : (answer : Answer) → ExactlyOne (λ (x : Bool). IsDonePromise answer x)
   pub is-refusal : (answer : Answer) → ExactlyOne (λ (x : Bool). IsRefusalPromise answer x)
-  pub after-reset : ExactlyOne (λ (x : Record). AfterResetPromise x)
+  pub after-reset : (frequency : Frequency) → ExactlyOne (λ (x : Record). AfterResetPromise frequency x)
   pub cell-of : (counter : Counter) → ExactlyOne (λ (x : ℕ). CellOfPromise counter x)
   pub little-endian : (number : ℕ) → ExactlyOne (λ (x : List ℕ). LittleEndianPromise number x)
   pub number-from : (first second third fourth : ℕ) → ExactlyOne (λ (x : ℕ). NumberFromPromise first second third fourth x)
   pub six-bytes : (sent : Sent) → ExactlyOne (λ (x : List ℕ). SixBytesPromise sent x)
   pub address-set : (n : Bool) (counter : Counter) → ExactlyOne (λ (x : ℕ). AddressSetPromise n counter x)
   pub line-length : (n : Bool) → ExactlyOne (λ (x : ℕ). LineLengthPromise n x)
-  pub short-time : ExactlyOne (λ (x : ℕ). ShortTimePromise x)
-  pub long-time : ExactlyOne (λ (x : ℕ). LongTimePromise x)
+  pub is-in-range : (frequency : Frequency) → ExactlyOne (λ (x : Bool). IsInRangePromise frequency x)
+  pub short-time : (frequency : Frequency) → ExactlyOne (λ (x : ℕ). ShortTimePromise frequency x)
+  pub long-time : (frequency : Frequency) → ExactlyOne (λ (x : ℕ). LongTimePromise frequency x)
   pub picture : (rec : Record) (mem : List ℕ) (size : Size) (lit : Bool) (out : List ℕ)
       → ExactlyOne (λ (x : Answer × List ℕ). PicturePromise rec mem size lit out (x .0) (x .1))
   pub rows-of : (function : Function) → ExactlyOne (λ (x : ℕ). RowsOfPromise function x)
@@ -85,8 +87,10 @@ pub record EachDetermined : Type 0 where
   pub write-row : (number answer byte busy : ℕ) (out : List ℕ)
       → ExactlyOne (λ (x : Written × List ℕ). WriteRowPromise number answer byte busy out (x .0) (x .1))
   pub write-header : (out : List ℕ) → ExactlyOne (λ (x : Written × List ℕ). WriteHeaderPromise out (x .0) (x .1))
-  pub play : (text out : List ℕ) → ExactlyOne (λ (x : Written × List ℕ). PlayPromise text out (x .0) (x .1))
-  pub play-through : (text : List ℕ) (most : ℕ) → ExactlyOne (λ (x : Standing). PlayThroughPromise text most x)
+  pub play : (text : List ℕ) (frequency : Frequency) (out : List ℕ)
+      → ExactlyOne (λ (x : Written × List ℕ). PlayPromise text frequency out (x .0) (x .1))
+  pub play-through : (text : List ℕ) (frequency : Frequency) (most : ℕ)
+      → ExactlyOne (λ (x : Standing). PlayThroughPromise text frequency most x)
   pub import : (capture out : List ℕ) → ExactlyOne (λ (x : Written × List ℕ). ImportPromise capture out (x .0) (x .1))
   pub capture : (session out : List ℕ) → ExactlyOne (λ (x : Written × List ℕ). CapturePromise session out (x .0) (x .1))
   pub wrong-word : (capture : List ℕ) → ExactlyOne (λ (x : Wrong). WrongWordPromise capture x)
