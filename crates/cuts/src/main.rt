@@ -1,6 +1,6 @@
-// Plays plans with cuts on the controller itself. For each wish of a fixed set and each starting record of another, the
-// plan is stopped after any number of its transfers and then sent whole; what the controller then holds is compared
-// with what demand 3 says of it. Document 01, "The plan".
+// Plays plans with cuts on the controller itself. For each wish of a fixed set, each starting record of another and each of four
+// frequencies, the plan is stopped after any number of its transfers and then sent whole; what the controller then holds is
+// compared with what demand 3 says of it. Document 01, "The plan".
 ghost use Prim.Native.Nat.{_≤_};
 
 mod cells;
@@ -11,14 +11,17 @@ mod tally;
 mod verdict;
 mod wishes;
 
+use controller::Frequency;
 use libc::STDOUT_FILENO;
 use lines::first;
+use report::put_frequencies;
 use report::put_total;
 use report::put_wish;
 use report::put_wrong;
 use runs::Run;
 use runs::lay_out;
 use runs::play_run;
+use runs::records_of;
 use starts::STARTS;
 use tally::Tally;
 use tally::add_run;
@@ -46,6 +49,7 @@ fn play_cuts(
     plan: &[u8; 2808],
     count: usize,
     wish: u8,
+    frequency: Frequency,
     start: u8,
     tally: Tally,
 ) -> Tally
@@ -56,6 +60,7 @@ fn play_cuts(
     while cut <= count {
         let run = Run {
             wish,
+            frequency,
             start,
             first: cut,
             second: 0,
@@ -72,14 +77,16 @@ fn play_start(
     plan: &[u8; 2808],
     count: usize,
     wish: u8,
+    frequency: Frequency,
     start: u8,
     tally: Tally,
 ) -> Tally
     requires { ⌜ count ≤ 468 ⌝ }
 {
-    let cut = play_cuts(out, plan, count, wish, start, tally);
+    let cut = play_cuts(out, plan, count, wish, frequency, start, tally);
     let twice = Run {
         wish,
+        frequency,
         start,
         first: count / 2,
         second: count / 3,
@@ -93,6 +100,7 @@ fn play_starts(
     plan: &[u8; 2808],
     count: usize,
     wish: u8,
+    frequency: Frequency,
     tally: Tally,
 ) -> Tally
     requires { ⌜ count ≤ 468 ⌝ }
@@ -100,18 +108,26 @@ fn play_starts(
     let mut next = tally;
     let mut start = 0;
     while start < STARTS {
-        next = play_start(out, plan, count, wish, start, next);
+        next = play_start(out, plan, count, wish, frequency, start, next);
         start += 1;
     }
     next
 }
 
-// The plan of one wish from every start, and its line of the report.
-fn play_wish(out: &mut [u8; 2048], wish: u8, total: Tally) -> Tally {
+// The plan of one wish for this frequency, from every start at it.
+fn play_at(out: &mut [u8; 2048], wish: u8, frequency: Frequency, tally: Tally) -> Tally {
     let mut plan = [0u8; 2808];
-    let count = lay_out(wish, &mut plan);
-    let played = play_starts(out, &plan, count, wish, begin(total));
-    let told = put_wish(out, wish, count, played);
+    let count = lay_out(wish, frequency, &mut plan);
+    play_starts(out, &plan, count, wish, frequency, tally)
+}
+
+// One wish at each frequency, and its line of the report.
+fn play_wish(out: &mut [u8; 2048], wish: u8, total: Tally) -> Tally {
+    let lowest = play_at(out, wish, Frequency::LOWEST, begin(total));
+    let older = play_at(out, wish, Frequency::OLDER, lowest);
+    let newer = play_at(out, wish, Frequency::NEWER, older);
+    let highest = play_at(out, wish, Frequency::HIGHEST, newer);
+    let told = put_wish(out, wish, records_of(wish), highest);
     join(total, told)
 }
 
@@ -138,7 +154,8 @@ fn main() {
         transfers: 0,
         wrong: 0,
     };
-    let total = play_wishes(&mut out, nothing);
+    let begun = put_frequencies(&mut out, nothing);
+    let total = play_wishes(&mut out, begun);
     let told = put_total(&mut out, total);
     print(&out, told.at);
 }

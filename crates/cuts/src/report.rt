@@ -2,6 +2,7 @@
 use crate::runs::Run;
 use crate::tally::Tally;
 use crate::verdict::Fault;
+use controller::Frequency;
 use lines::put_byte;
 use lines::put_number;
 use lines::put_text;
@@ -34,19 +35,35 @@ fn put_fault(out: &mut [u8], at: usize, fault: Fault) -> usize {
         Fault::Register => put_text(out, at, b"register"),
         Fault::Stale => put_text(out, at, b"register stale"),
         Fault::Busy => put_text(out, at, b"busy"),
+        Fault::Frequency => put_text(out, at, b"frequency"),
         Fault::Cell(place) => put_count(out, at, b"cell ", place as u64),
     }
 }
 
+// Which run it was: its wish, frequency and start.
+fn put_which(out: &mut [u8], at: usize, run: Run) -> usize {
+    let wish = put_count(out, at, b"wrong: wish ", run.wish as u64);
+    let khz = put_count(out, wish, b"  kHz ", run.frequency.khz as u64);
+    put_count(out, khz, b"  start ", run.start as u64)
+}
+
 // The line of a wrong run.
 fn put_run(out: &mut [u8], at: usize, run: Run, fault: Fault) -> usize {
-    let wish = put_count(out, at, b"wrong: wish ", run.wish as u64);
-    let start = put_count(out, wish, b"  start ", run.start as u64);
-    let first = put_count(out, start, b"  cut ", run.first as u64);
+    let which = put_which(out, at, run);
+    let first = put_count(out, which, b"  cut ", run.first as u64);
     let second = put_count(out, first, b"  then ", run.second as u64);
     let parted = put_text(out, second, b"  ");
     let named = put_fault(out, parted, fault);
     put_byte(out, named, b'\n')
+}
+
+// The first line: the frequencies that are played.
+pub fn put_frequencies(out: &mut [u8; 2048], tally: Tally) -> Tally {
+    let lowest = put_count(out, tally.at, b"kHz ", Frequency::LOWEST.khz as u64);
+    let older = put_count(out, lowest, b" ", Frequency::OLDER.khz as u64);
+    let newer = put_count(out, older, b" ", Frequency::NEWER.khz as u64);
+    let highest = put_count(out, newer, b" ", Frequency::HIGHEST.khz as u64);
+    move_to(tally, put_byte(out, highest, b'\n'))
 }
 
 // Names a wrong run, if it is one of the first ten.

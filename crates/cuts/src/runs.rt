@@ -9,13 +9,15 @@ use crate::verdict::judge;
 use crate::wishes::marks_of;
 use crate::wishes::wish_of;
 use controller::Answer;
+use controller::Frequency;
 use controller::number_from;
 use controller::transfer;
 
-// One run: the wish and the start by their numbers, how many transfers are sent before the first cut, and how many of
-// the plan begun anew before the second.
+// One run: the wish and the start by their numbers, the frequency of both, how many transfers are sent before the first cut,
+// and how many of the plan begun anew before the second.
 pub struct Run {
     pub wish: u8,
+    pub frequency: Frequency,
     pub start: u8,
     pub first: usize,
     pub second: usize,
@@ -32,13 +34,19 @@ fn limit(count: usize) -> usize
 }
 
 // The plan of a wish: how many records it has.
-pub fn lay_out(wish: u8, plan: &mut [u8; 2808]) -> usize
+pub fn lay_out(wish: u8, frequency: Frequency, plan: &mut [u8; 2808]) -> usize
     ensures { λ r. ⌜ r ≤ 468 ⌝ }
 {
     let marks = marks_of(wish);
     let values = cell_bytes(true);
-    let planned = planner::plan(wish_of(wish), &marks, &values, plan);
+    let planned = planner::plan(wish_of(wish, frequency), &marks, &values, plan);
     limit(planned.count)
+}
+
+// How many records the plan of a wish has, which is the same at every frequency.
+pub fn records_of(wish: u8) -> usize {
+    let mut plan = [0u8; 2808];
+    lay_out(wish, Frequency::OLDER, &mut plan)
 }
 
 // Document 01, "What each number says": 4, busy.
@@ -90,7 +98,8 @@ pub fn play_run(plan: &[u8; 2808], count: usize, run: Run) -> Verdict
     requires { ⌜ (count ≤ 468) × (run .first ≤ 468) × (run .second ≤ 468) ⌝ }
 {
     let mut memory = cell_bytes(false);
-    let start = start_of(run.start);
+    let frequency = run.frequency;
+    let start = start_of(run.start, frequency);
     let begun = Played {
         rec: start,
         sent: 0,
@@ -99,5 +108,11 @@ pub fn play_run(plan: &[u8; 2808], count: usize, run: Run) -> Verdict
     let cut = play(plan, run.first, &mut memory, begun);
     let again = play(plan, run.second, &mut memory, cut);
     let ended = play(plan, count, &mut memory, again);
-    judge(run.wish, excepted(start), ended, &memory)
+    judge(
+        wish_of(run.wish, frequency),
+        run.wish,
+        excepted(start),
+        ended,
+        &memory,
+    )
 }

@@ -1,5 +1,6 @@
 // The records from which the plans are played: both widths, each kind of half, busy at its limits, S=1.
 use controller::Counter;
+use controller::Frequency;
 use controller::Half;
 use controller::Record;
 use controller::after_reset;
@@ -11,7 +12,7 @@ pub const STARTS: u8 = 14;
 // A record with all that a plan has to undo: S=1, which shifts the display at each data write, I/D=0, the display on,
 // and the last shift.
 fn unruly(wide: bool, counter: Counter, fresh: bool, busy: u32, half: Half) -> Record {
-    let mut rec = after_reset();
+    let mut rec = after_reset(Frequency::OLDER);
     rec.wide = wide;
     rec.function.f = true;
     rec.control.d = true;
@@ -62,12 +63,12 @@ fn read_halved(fresh: bool) -> Record {
 }
 
 // The plan's first byte, 30h, gives the instruction halves 0h, 1h, 2h, 3h, 8h and Fh a 3h each: Home, a move of the
-// counter, width 4, width 8, a display address, and one that has no cell.
-pub fn start_of(start: u8) -> Record {
+// counter, width 4, width 8, a display address, and one that has no cell. The second is busy for the long time.
+fn record_of(start: u8, long: u32) -> Record {
     match start {
-        0 => after_reset(),
+        0 => after_reset(Frequency::OLDER),
         1 => unruly(true, Counter::Pattern(63), true, 0, Half::Empty),
-        2 => unruly(false, Counter::Display(39), false, long_time(), Half::Empty),
+        2 => unruly(false, Counter::Display(39), false, long, Half::Empty),
         3 => instruction_halved(0x0),
         4 => instruction_halved(0x1),
         5 => instruction_halved(0x2),
@@ -80,6 +81,13 @@ pub fn start_of(start: u8) -> Record {
         12 => read_halved(true),
         _ => read_halved(false),
     }
+}
+
+// A starting record on a module of this frequency.
+pub fn start_of(start: u8, frequency: Frequency) -> Record {
+    let mut rec = record_of(start, long_time(frequency));
+    rec.frequency = frequency;
+    rec
 }
 
 // Where the counter's cell stands among the 144.

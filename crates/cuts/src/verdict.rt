@@ -4,7 +4,6 @@ ghost use Prim.Native.Nat.{_<_};
 use crate::cells::first_byte;
 use crate::cells::wished_byte;
 use crate::wishes::is_marked;
-use crate::wishes::wish_of;
 use controller::Control;
 use controller::Counter;
 use controller::Entry;
@@ -35,6 +34,7 @@ pub enum Fault {
     Register,
     Stale,
     Busy,
+    Frequency,
     Cell(usize),
 }
 
@@ -111,17 +111,22 @@ fn place_fault(rec: Record, wish: Wish) -> Fault {
     Fault::Nothing
 }
 
-// Width 4 with no half waiting, and busy with an instruction that takes the short time.
-fn bus_fault(rec: Record) -> Fault {
+// Width 4 with no half waiting, and busy with an instruction that takes the short time at the wish's frequency, which is the
+// module's.
+fn bus_fault(rec: Record, wish: Wish) -> Fault {
     let half = rec.half;
+    let frequency = wish.frequency;
     if rec.wide {
         return Fault::Width;
     }
     if !is_empty(half) {
         return Fault::Waiting;
     }
-    if rec.busy != short_time() {
+    if rec.busy != short_time(frequency) {
         return Fault::Busy;
+    }
+    if rec.frequency.khz != frequency.khz {
+        return Fault::Frequency;
     }
     Fault::Nothing
 }
@@ -148,7 +153,7 @@ fn register_fault(rec: Record, cursor: u8, memory: &[u8; 144]) -> Fault {
 
 fn record_fault(rec: Record, wish: Wish, memory: &[u8; 144]) -> Fault {
     first_of(
-        first_of(bus_fault(rec), bits_fault(rec, wish)),
+        first_of(bus_fault(rec, wish), bits_fault(rec, wish)),
         first_of(
             place_fault(rec, wish),
             register_fault(rec, wish.cursor, memory),
@@ -187,15 +192,21 @@ fn refusal_fault(refused: bool) -> Fault {
     Fault::Nothing
 }
 
-// The run as it ended, against the wish and the start's excepted place.
-pub fn judge(wish: u8, excepted: usize, ended: Played, memory: &[u8; 144]) -> Verdict {
+// The run as it ended, against the wish, whose number says which cells it names, and the start's excepted place.
+pub fn judge(
+    wish: Wish,
+    number: u8,
+    excepted: usize,
+    ended: Played,
+    memory: &[u8; 144],
+) -> Verdict {
     let rec = ended.rec;
     let found = first_of(
         refusal_fault(ended.refused),
-        record_fault(rec, wish_of(wish), memory),
+        record_fault(rec, wish, memory),
     );
     Verdict {
-        fault: first_of(found, cells_fault(wish, excepted, memory)),
+        fault: first_of(found, cells_fault(number, excepted, memory)),
         sent: ended.sent,
     }
 }

@@ -1,6 +1,7 @@
 // The wishes whose plans are played.
 use controller::Control;
 use controller::Entry;
+use controller::Frequency;
 use controller::Function;
 use planner::Wish;
 
@@ -69,14 +70,16 @@ fn cursor_of(wish: u8) -> u8 {
     }
 }
 
-// How the panel is to stand. 0 is the plain wish of P12, and 1 has the longest plan that there can be.
-pub fn wish_of(wish: u8) -> Wish {
+// How the panel is to stand, on a module of this frequency. 0 is the plain wish of P12, and 1 has the longest plan that there
+// can be.
+pub fn wish_of(wish: u8, frequency: Frequency) -> Wish {
     Wish {
         function: function_of(wish),
         control: control_of(wish),
         entry: entry_of(wish),
         shift: shift_of(wish),
         cursor: cursor_of(wish),
+        frequency,
     }
 }
 

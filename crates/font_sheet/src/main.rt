@@ -1,6 +1,7 @@
 // Writes the shapes of the fixed table, sixteen beside each other under their letters and codes, for a person to look at. Each
 // block is a picture: a line of sixteen characters, with the display on and no cursor.
 ghost use Prim.Native.Nat.{_<_};
+use controller::Frequency;
 use controller::Record;
 use controller::after_reset;
 use libc::STDOUT_FILENO;
@@ -14,7 +15,7 @@ const OUTPUT: usize = 6_144;
 
 // A record that shows the display cells from cell 0 on.
 fn shown() -> Record {
-    let mut rec = after_reset();
+    let mut rec = after_reset(Frequency::OLDER);
     rec.control.d = true;
     rec
 }

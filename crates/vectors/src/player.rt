@@ -6,6 +6,7 @@ use crate::row::is_halved;
 use crate::row::second_byte;
 use crate::row::wait_of;
 use controller::Counter;
+use controller::Frequency;
 use controller::Record;
 use controller::after_reset;
 use controller::is_refusal;
@@ -21,7 +22,7 @@ pub struct Played {
 
 // The record before power on. Reset takes any; this one differs from what reset leaves wherever the manuals look.
 pub fn unpowered() -> Record {
-    let mut rec = after_reset();
+    let mut rec = after_reset(Frequency::OLDER);
     rec.wide = false;
     rec.function.n = true;
     rec.function.f = true;
@@ -73,7 +74,7 @@ fn fill(memory: &mut [u8; 144], played: Played) -> Played {
     let mut next = played;
     let mut cell = 0;
     while cell < 80 {
-        next = send(memory, 1, 0x21 + cell, short_time(), next);
+        next = send(memory, 1, 0x21 + cell, short_time(Frequency::OLDER), next);
         cell += 1;
     }
     next

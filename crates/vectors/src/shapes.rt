@@ -1,12 +1,13 @@
 // Reads a picture back: which letter stands at a position, and where the cursor is. A letter is known by its dots alone,
 // by comparing them with pictures of one letter each. The picture is 16 columns wide and two lines high.
 ghost use Prim.Native.Nat.{_<_};
+use controller::Frequency;
 use controller::Record;
 use controller::after_reset;
 
 // A record that shows display cell 0 at the first position, without a cursor.
 fn plain() -> Record {
-    let mut rec = after_reset();
+    let mut rec = after_reset(Frequency::OLDER);
     rec.control.d = true;
     rec
 }

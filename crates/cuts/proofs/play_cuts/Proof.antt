@@ -5,10 +5,10 @@ use Rattle.cuts.proofs.play_cuts.Statement.{statement}
 use Rattle.cuts.proofs.play_cuts.Tie as tie
 
 abbrev Inv-loop : tie.InvT-loop
-Inv-loop out₀ plan count wish start next₀ cut₀ out next cut = cut ≤ count + 1
+Inv-loop out₀ plan count wish frequency start next₀ cut₀ out next cut = cut ≤ count + 1
 
 abbrev μ-loop : tie.MeasureT-loop
-μ-loop out₀ plan count wish start next₀ cut₀ out next cut = count + 1 - cut
+μ-loop out₀ plan count wish frequency start next₀ cut₀ out next cut = count + 1 - cut
 
 loop-holds : tie.Need-loop-holds Inv-loop μ-loop
 loop-holds c = search needs

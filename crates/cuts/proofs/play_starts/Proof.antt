@@ -5,10 +5,10 @@ use Rattle.cuts.proofs.play_starts.Statement.{statement}
 use Rattle.cuts.proofs.play_starts.Tie as tie
 
 abbrev Inv-loop : tie.InvT-loop
-Inv-loop out₀ plan count wish next₀ start₀ out next start = start ≤ 14
+Inv-loop out₀ plan count wish frequency next₀ start₀ out next start = start ≤ 14
 
 abbrev μ-loop : tie.MeasureT-loop
-μ-loop out₀ plan count wish next₀ start₀ out next start = 14 - start
+μ-loop out₀ plan count wish frequency next₀ start₀ out next start = 14 - start
 
 loop-holds : tie.Need-loop-holds Inv-loop μ-loop
 loop-holds c = search needs
