@@ -95,28 +95,9 @@ same '196,608 bytes through a pipe: what is told' "$work/errors" "$work/told"
     | timeout 20 "$program" > "$work/got"
 same 'input in pieces' "$work/got" tests/capture/first_wait.out
 
-# Standard input that cannot be read: nothing is written, so that nothing is taken for a whole capture.
-echo 'capture: standard input could not be read to its end. Nothing was written.' > "$work/told"
-timeout 20 "$program" <&- > "$work/got" 2> "$work/errors"
-same 'closed standard input'
-same 'closed standard input: what is told' "$work/errors" "$work/told"
-timeout 20 "$program" < tests > "$work/got" 2> "$work/errors"
-same 'a folder as standard input'
-same 'a folder as standard input: what is told' "$work/errors" "$work/told"
-
-# Standard output closed or on a full disk: it is told, and the program ends, with status 0.
-echo 'capture: standard output could not be written. What stands there is not whole.' > "$work/told"
-timeout 20 "$program" < "$work/full" >&- 2> "$work/errors"
-count 'closed standard output' $?
-same 'closed standard output: what is told' "$work/errors" "$work/told"
-if [ -c /dev/full ]; then
-    timeout 20 "$program" < "$work/full" > /dev/full 2> "$work/errors"
-    count 'a full disk' $?
-    same 'a full disk: what is told' "$work/errors" "$work/told"
-    timeout 20 "$program" < tests/capture/close.in > /dev/full 2> "$work/errors"
-    cat tests/capture/close.errors >> "$work/told"
-    same 'a full disk and a close wait: what is told' "$work/errors" "$work/told"
-fi
+unreadable 'capture: standard input could not be read to its end. Nothing was written.'
+unwritable "$work/full"
+unwritable tests/capture/close.in tests/capture/close.errors
 
 # A closed pipe ends it quietly.
 closed_pipe "$work/full" "$program" 2> "$work/errors"

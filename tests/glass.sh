@@ -86,23 +86,9 @@ cat "$work/want" "$work/words" > "$work/both"
 same '65,537 bytes beside a bitmap' "$work/errors" "$work/both"
 same '65,537 bytes: no bitmap' "$work/got" "$work/empty"
 
-# Standard input that cannot be read: nothing is drawn, and that is told.
-echo 'glass: standard input could not be read to its end. Nothing was played.' > "$work/want"
-timeout 20 "$program" <&- > "$work/got" 2> "$work/errors"
-same 'closed standard input: nothing drawn' "$work/got" "$work/empty"
-same 'closed standard input: standard error' "$work/errors" "$work/want"
-timeout 20 "$program" < examples > "$work/got" 2> "$work/errors"
-same 'a folder: nothing drawn' "$work/got" "$work/empty"
-same 'a folder: standard error' "$work/errors" "$work/want"
-
-# Closed output and a full disk are told; a pipe that nobody reads ends the program.
-echo 'glass: standard output could not be written. What stands there is not whole.' > "$work/want"
-timeout 20 "$program" < examples/hello.session >&- 2> "$work/errors"
-same 'closed standard output' "$work/errors" "$work/want"
-if [ -c /dev/full ]; then
-    timeout 20 "$program" < examples/hello.session > /dev/full 2> "$work/errors"
-    same 'a full disk' "$work/errors" "$work/want"
-fi
+unreadable 'glass: standard input could not be read to its end. Nothing was played.'
+unwritable examples/hello.session
+# A pipe that nobody reads ends the program.
 closed_pipe examples/hello.session "$program" 40 2 --pbm
 
 finish

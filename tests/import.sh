@@ -66,25 +66,8 @@ echo 'import: the capture is longer than 2,097,152 bytes, the most that is taken
 { cat "$work/full"; echo; } > "$work/long"
 imports "$work/long" "$work/want" "$work/told"
 
-# Standard input that cannot be read: nothing is written.
-echo 'import: standard input could not be read to its end. Nothing was imported.' > "$work/told"
-timeout 20 "$program" <&- > "$work/got" 2> "$work/errors"
-same 'closed standard input'
-same 'closed standard input: what is told' "$work/errors" "$work/told"
-timeout 20 "$program" < tests > "$work/got" 2> "$work/errors"
-same 'a folder as standard input'
-same 'a folder as standard input: what is told' "$work/errors" "$work/told"
-
-# Standard output closed or on a full disk: it is told, and the program ends, with status 0.
-echo 'import: standard output could not be written. What stands there is not whole.' > "$work/told"
-timeout 20 "$program" < "$work/full" >&- 2> "$work/errors"
-count 'closed standard output' $?
-same 'closed standard output: what is told' "$work/errors" "$work/told"
-if [ -c /dev/full ]; then
-    timeout 20 "$program" < "$work/full" > /dev/full 2> "$work/errors"
-    count 'a full disk' $?
-    same 'a full disk: what is told' "$work/errors" "$work/told"
-fi
+unreadable 'import: standard input could not be read to its end. Nothing was imported.'
+unwritable "$work/full"
 closed_pipe "$work/full" "$program" 2> "$work/errors"
 same 'a closed pipe: nothing is told' "$work/errors" /dev/null
 

@@ -84,32 +84,9 @@ same '196,608 bytes through a pipe: what is told' "$work/errors" "$work/told"
 printf 'no\tanswer\tbyte\tbusy\n1\t0\t00\t40\n2\t0\t80\t40\n' > "$work/want"
 same 'input in pieces'
 
-# Standard input that cannot be read: no report, so that none is taken for a whole one.
-: > "$work/want"
-echo 'session: standard input could not be read to its end. Nothing was played.' > "$work/told"
-timeout 20 "$program" <&- > "$work/got" 2> "$work/errors"
-same 'closed standard input'
-same 'closed standard input: what is told' "$work/errors" "$work/told"
-timeout 20 "$program" < tests > "$work/got" 2> "$work/errors"
-same 'a folder as standard input'
-same 'a folder as standard input: what is told' "$work/errors" "$work/told"
-timeout 20 "$program" 0> "$work/written" > "$work/got" 2> "$work/errors"
-same 'standard input opened for writing'
-same 'standard input opened for writing: what is told' "$work/errors" "$work/told"
-
-# Standard output closed or on a full disk: it is told, and the program ends, with status 0.
-echo 'session: standard output could not be written. What stands there is not whole.' > "$work/told"
-timeout 20 "$program" < "$work/full" >&- 2> "$work/errors"
-count 'closed standard output' $?
-same 'closed standard output: what is told' "$work/errors" "$work/told"
-if [ -c /dev/full ]; then
-    timeout 20 "$program" < "$work/full" > /dev/full 2> "$work/errors"
-    count 'a full disk' $?
-    same 'a full disk: what is told' "$work/errors" "$work/told"
-    timeout 20 "$program" < "$work/bad" > /dev/full 2> "$work/errors"
-    cat "$work/bad_told" >> "$work/told"
-    same 'a full disk and a bad line: what is told' "$work/errors" "$work/told"
-fi
+unreadable 'session: standard input could not be read to its end. Nothing was played.'
+unwritable "$work/full"
+unwritable "$work/bad" "$work/bad_told"
 
 # A closed pipe ends it quietly.
 closed_pipe "$work/full" "$program" 2> "$work/errors"
