@@ -17,6 +17,8 @@ use telling::LIMIT;
 use telling::read_input;
 use telling::tell;
 use telling::tell_bad_line;
+use telling::tell_too_long;
+use telling::tell_unread;
 use telling::tell_unwritten;
 
 // What the capture of the longest session wants: nine bytes for each byte of it, and 291 more.
@@ -124,18 +126,12 @@ fn main() {
     let mut input = [0u8; INPUT];
     let got = read_input(&mut input);
     if got.failed {
-        tell(
-            b"capture",
-            b"standard input could not be read to its end. Nothing was written.",
-        );
+        tell_unread(b"capture", b"Nothing was written.");
         return;
     }
     let length = got.length;
     if LIMIT < length {
-        tell(
-            b"capture",
-            b"the session is longer than 65,536 bytes, the most that is taken. Nothing was written.",
-        );
+        tell_too_long(b"capture", b"Nothing was written.");
         return;
     }
     show(first(&input, length));

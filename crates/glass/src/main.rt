@@ -135,14 +135,14 @@ fn main() {
     let mut input = [0u8; INPUT];
     let got = read_input(&mut input);
     if got.failed {
-        tell_unread(b"glass");
+        tell_unread(b"glass", b"Nothing was played.");
         return;
     }
     let length = got.length;
     if LIMIT < length {
         let form = options.form;
         is_written(place_for_words(form), b"too long\n");
-        tell_too_long(b"glass");
+        tell_too_long(b"glass", b"Nothing was played.");
         return;
     }
     play_and_show(options, first(&input, length));

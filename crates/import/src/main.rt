@@ -9,6 +9,7 @@ use libc::STDOUT_FILENO;
 use lines::first;
 use telling::read_input;
 use telling::tell;
+use telling::tell_unread;
 use telling::tell_unwritten;
 
 // The longest capture, and one byte more, by which a longer one shows.
@@ -40,10 +41,7 @@ fn main() {
     let mut input = [0u8; INPUT];
     let got = read_input(&mut input);
     if got.failed {
-        tell(
-            b"import",
-            b"standard input could not be read to its end. Nothing was imported.",
-        );
+        tell_unread(b"import", b"Nothing was imported.");
         return;
     }
     let length = got.length;

@@ -69,13 +69,13 @@ fn main() {
     let mut input = [0u8; INPUT];
     let got = read_input(&mut input);
     if got.failed {
-        tell_unread(b"session");
+        tell_unread(b"session", b"Nothing was played.");
         return;
     }
     let length = got.length;
     if LIMIT < length {
         print(b"too long\n");
-        tell_too_long(b"session");
+        tell_too_long(b"session", b"Nothing was played.");
         return;
     }
     report(first(&input, length));

@@ -12,26 +12,26 @@ slice-aggregate-read-input c = search needs
 read-input-requires : tie.Need-read-input-requires
 read-input-requires c κs = search needs
 
-slice-aggregate-tell : tie.Need-slice-aggregate-tell
-slice-aggregate-tell c = search needs
+slice-aggregate-tell-unread : tie.Need-slice-aggregate-tell-unread
+slice-aggregate-tell-unread c = search needs
 
-slice-aggregate-tell-2 : tie.Need-slice-aggregate-tell-2
-slice-aggregate-tell-2 c = search needs
+slice-aggregate-tell-unread-2 : tie.Need-slice-aggregate-tell-unread-2
+slice-aggregate-tell-unread-2 c = search needs
 
-tell-requires : tie.Need-tell-requires
-tell-requires c κs = search needs
+tell-unread-requires : tie.Need-tell-unread-requires
+tell-unread-requires c κs = search needs
 
 returns : tie.Need-returns
 returns c = search needs
 
-slice-aggregate-tell-3 : tie.Need-slice-aggregate-tell-3
-slice-aggregate-tell-3 c = search needs
+slice-aggregate-tell-too-long : tie.Need-slice-aggregate-tell-too-long
+slice-aggregate-tell-too-long c = search needs
 
-slice-aggregate-tell-4 : tie.Need-slice-aggregate-tell-4
-slice-aggregate-tell-4 c = search needs
+slice-aggregate-tell-too-long-2 : tie.Need-slice-aggregate-tell-too-long-2
+slice-aggregate-tell-too-long-2 c = search needs
 
-tell-requires-2 : tie.Need-tell-requires-2
-tell-requires-2 c κs = search needs
+tell-too-long-requires : tie.Need-tell-too-long-requires
+tell-too-long-requires c κs = search needs
 
 returns-2 : tie.Need-returns-2
 returns-2 c = search needs
@@ -54,13 +54,13 @@ main-spec =
     (tie.spec
     slice-aggregate-read-input
     read-input-requires
-    slice-aggregate-tell
-    slice-aggregate-tell-2
-    tell-requires
+    slice-aggregate-tell-unread
+    slice-aggregate-tell-unread-2
+    tell-unread-requires
     returns
-    slice-aggregate-tell-3
-    slice-aggregate-tell-4
-    tell-requires-2
+    slice-aggregate-tell-too-long
+    slice-aggregate-tell-too-long-2
+    tell-too-long-requires
     returns-2
     slice-aggregate-first
     first-requires

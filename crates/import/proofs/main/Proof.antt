@@ -12,6 +12,18 @@ slice-aggregate-read-input c = sym (length-replicate {A = ℕ} 2097153 0)
 read-input-requires : tie.Need-read-input-requires
 read-input-requires c κs = search needs
 
+slice-aggregate-tell-unread : tie.Need-slice-aggregate-tell-unread
+slice-aggregate-tell-unread c = search needs
+
+slice-aggregate-tell-unread-2 : tie.Need-slice-aggregate-tell-unread-2
+slice-aggregate-tell-unread-2 c = search needs
+
+tell-unread-requires : tie.Need-tell-unread-requires
+tell-unread-requires c κs = search needs
+
+returns : tie.Need-returns
+returns c = search needs
+
 slice-aggregate-tell : tie.Need-slice-aggregate-tell
 slice-aggregate-tell c = search needs
 
@@ -20,18 +32,6 @@ slice-aggregate-tell-2 c = search needs
 
 tell-requires : tie.Need-tell-requires
 tell-requires c κs = search needs
-
-returns : tie.Need-returns
-returns c = search needs
-
-slice-aggregate-tell-3 : tie.Need-slice-aggregate-tell-3
-slice-aggregate-tell-3 c = search needs
-
-slice-aggregate-tell-4 : tie.Need-slice-aggregate-tell-4
-slice-aggregate-tell-4 c = search needs
-
-tell-requires-2 : tie.Need-tell-requires-2
-tell-requires-2 c κs = search needs
 
 returns-2 : tie.Need-returns-2
 returns-2 c = search needs
@@ -58,13 +58,13 @@ main-spec =
     (tie.spec
     slice-aggregate-read-input
     read-input-requires
+    slice-aggregate-tell-unread
+    slice-aggregate-tell-unread-2
+    tell-unread-requires
+    returns
     slice-aggregate-tell
     slice-aggregate-tell-2
     tell-requires
-    returns
-    slice-aggregate-tell-3
-    slice-aggregate-tell-4
-    tell-requires-2
     returns-2
     slice-aggregate-first
     first-requires

@@ -15,6 +15,9 @@ read-input-requires c κs = search needs
 slice-aggregate-tell-unread : tie.Need-slice-aggregate-tell-unread
 slice-aggregate-tell-unread c = search needs
 
+slice-aggregate-tell-unread-2 : tie.Need-slice-aggregate-tell-unread-2
+slice-aggregate-tell-unread-2 c = search needs
+
 tell-unread-requires : tie.Need-tell-unread-requires
 tell-unread-requires c κs = search needs
 
@@ -29,6 +32,9 @@ print-requires c κs = search needs
 
 slice-aggregate-tell-too-long : tie.Need-slice-aggregate-tell-too-long
 slice-aggregate-tell-too-long c = search needs
+
+slice-aggregate-tell-too-long-2 : tie.Need-slice-aggregate-tell-too-long-2
+slice-aggregate-tell-too-long-2 c = search needs
 
 tell-too-long-requires : tie.Need-tell-too-long-requires
 tell-too-long-requires c κs = search needs
@@ -55,11 +61,13 @@ main-spec =
     slice-aggregate-read-input
     read-input-requires
     slice-aggregate-tell-unread
+    slice-aggregate-tell-unread-2
     tell-unread-requires
     returns
     slice-aggregate-print
     print-requires
     slice-aggregate-tell-too-long
+    slice-aggregate-tell-too-long-2
     tell-too-long-requires
     returns-2
     slice-aggregate-first
