@@ -3,8 +3,9 @@
 use mathlib.Core.Bool.{Bool, cond, _&&_}
 use mathlib.Core.List.{List, [], _∷_, _++_}
 use Prim.Native.Char.{code}
-use Prim.Native.Nat.{ℕ, zero, suc, _+_, _-_, _/_, _%_}
-use lib.Dec.{ltb, leb}
+use Prim.Native.Nat.{ℕ, zero, suc, _+_, _-_, _*_, _/_, _%_}
+use lib.Dec.{ltb, leb, eqb}
+use lib.ListN.{length, getD}
 
 -- The tab that parts two fields.
 abbrev pub tab : ℕ
@@ -26,6 +27,16 @@ between first last byte = leb first byte && leb byte last
 -- too, 16.
 unfoldable pub worthOf : ℕ → ℕ
 worthOf byte = cond (between 0x30 0x39 byte) (byte - 0x30) (cond (between 0x41 0x46 byte) (byte - 0x37) 16)
+
+-- What three digits say: their worth in hundreds, tens and ones, and 0 where one of them is no decimal digit.
+unfoldable pub threeSay : ℕ → ℕ → ℕ → ℕ
+threeSay hundreds tens ones =
+    cond (leb hundreds 9 && (leb tens 9 && leb ones 9)) (hundreds * 100 + tens * 10 + ones) 0
+
+-- The number that three decimal digits say; any other word says 0.
+unfoldable pub threeDigits : List ℕ → ℕ
+threeDigits word =
+    cond (eqb (length word) 3) (threeSay (worthOf (getD word 0 0)) (worthOf (getD word 1 0)) (worthOf (getD word 2 0))) 0
 
 -- A number's digits above the last, then the last. The first argument, above the number, only bounds the recursion.
 unfoldable pub spelled : ℕ → ℕ → List ℕ

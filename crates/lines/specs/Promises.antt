@@ -7,7 +7,7 @@ use lib.ListN.{take}
 use Rattle.controller.specs.declared.answers.Answer.{Answer}
 use Rattle.lines.specs.declared.reader.Line.{Line}
 use Rattle.lines.specs.declared.writer.Written.{Written}
-use Rattle.lines.specs.Digits.{decimal, digit, hexPair, worthOf}
+use Rattle.lines.specs.Digits.{decimal, digit, hexPair, threeDigits, worthOf}
 use Rattle.lines.specs.Reading.{lineOf}
 use Rattle.lines.specs.ReportText.{header, row, rowSize}
 use Rattle.lines.specs.Text.{put, putting}
@@ -38,6 +38,10 @@ HexDigitPromise number returned = returned ≡ digit number
 -- `worth_of`: what the byte is worth as an upper-case hex digit, and 16 where it is none.
 abbrev pub WorthOfPromise : ℕ → ℕ → Type 0
 WorthOfPromise byte returned = returned ≡ worthOf byte
+
+-- `three_digits`: the number that the word's three decimal digits say, and 0 for any other word.
+abbrev pub ThreeDigitsPromise : List ℕ → ℕ → Type 0
+ThreeDigitsPromise word returned = returned ≡ threeDigits word
 
 -- `put_text`: what of the text fits stands from the place on, every other byte is as it was, and the place after it is returned.
 abbrev pub PutTextPromise : List ℕ → ℕ → List ℕ → ℕ → List ℕ → Type 0

@@ -13,6 +13,7 @@ use Rattle.controller.specs.Answers.{numberOf, Row, Tells}
 use Rattle.controller.specs.Rows.{NoTransfer}
 use Rattle.lines.specs.declared.reader.Line.{Line}
 use Rattle.lines.specs.declared.writer.Written.{Written}
+use Rattle.lines.specs.Digits.{decimal, threeDigits}
 use Rattle.lines.specs.Line.{line, linesOf, waitLimit}
 use Rattle.lines.specs.Reading.{lineOf}
 use Rattle.lines.specs.Session.{sessionOf}
@@ -117,3 +118,9 @@ SessionReadsBack =
 -- A text is no session: there are no transfers whose lines it is.
 abbrev pub NoSession : List ℕ → Type 0
 NoSession text = (ts : List Sent) → AllSayable ts → text ≡ linesOf ts → ⊥
+
+-- Words of three digits are the numbers 100 to 999 in decimal: each such number is read back, and no other word says it.
+abbrev pub ThreeDigitsRead : Type 0
+ThreeDigitsRead =
+    ((number : ℕ) → 100 ≤ number → number < 1000 → threeDigits (decimal number) ≡ number)
+    × ((word : List ℕ) → 100 ≤ threeDigits word → decimal (threeDigits word) ≡ word)

@@ -1,7 +1,8 @@
 // Digits and letters, each way.
 ghost use mathlib.Core.Path.{_≡_};
+ghost use Rattle.lines.specs.Digits.{threeSay};
 ghost use Rattle.lines.specs.Line.{kindOf, letterOf};
-ghost use Rattle.lines.specs.Promises.{HexDigitPromise, WorthOfPromise};
+ghost use Rattle.lines.specs.Promises.{HexDigitPromise, ThreeDigitsPromise, WorthOfPromise};
 
 // The last hex digit of a number: `0` to `9`, or `A` to `F`.
 pub fn hex_digit(number: u8) -> u8
@@ -30,6 +31,32 @@ pub fn worth_of(byte: u8) -> u8
         return byte - 0x37;
     }
     16
+}
+
+// What three digits say by their worth, and 0 where one of them is no decimal digit.
+fn three_say(hundreds: u8, tens: u8, ones: u8) -> u16
+    ensures { λ r. ⌜ r ≡ threeSay hundreds tens ones ⌝ }
+{
+    if 9 < hundreds {
+        return 0;
+    }
+    if 9 < tens {
+        return 0;
+    }
+    if 9 < ones {
+        return 0;
+    }
+    hundreds as u16 * 100 + tens as u16 * 10 + ones as u16
+}
+
+// The number that three decimal digits say, and 0 for any other word.
+pub fn three_digits(word: &[u8]) -> u16
+    ensures { λ r. ⌜ ThreeDigitsPromise (now (word .entry)) r ⌝ }
+{
+    if word.len() == 3 {
+        return three_say(worth_of(word[0]), worth_of(word[1]), worth_of(word[2]));
+    }
+    0
 }
 
 // The letter of a kind.

@@ -8,6 +8,7 @@ mod words;
 mod writer;
 
 pub use digits::hex_digit;
+pub use digits::three_digits;
 pub use digits::worth_of;
 pub use reader::Line;
 pub use reader::read_line;

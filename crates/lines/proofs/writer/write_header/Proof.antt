@@ -1,5 +1,6 @@
 -- `lines::writer::write_header` meets its contract: a buffer of 20 bytes takes the header's text whole.
 -- Assumes nothing.
+use lib.ListN.{length}
 use mathlib.Core.Path.{refl, ap, _∙_}
 use native.Mathlib.Omega.{arith}
 use Rattle.controller.specs.declared.answers.Answer.the-variants.{Done}
