@@ -15,9 +15,13 @@ padded number power = cond (ltb number power) (code " ") (digit (number / power 
 abbrev pub twoWide : ℕ → List ℕ
 twoWide number = padded number 10 ∷ digit (number % 10) ∷ []
 
+-- A number in three places, blanks before it.
+abbrev pub threeWide : ℕ → List ℕ
+threeWide number = padded number 100 ∷ twoWide number
+
 -- A number in four places, blanks before it.
 abbrev pub fourWide : ℕ → List ℕ
-fourWide number = padded number 1000 ∷ padded number 100 ∷ padded number 10 ∷ digit (number % 10) ∷ []
+fourWide number = padded number 1000 ∷ threeWide number
 
 -- A number as four digits, with zeros before it.
 abbrev pub fourDigits : ℕ → List ℕ

@@ -12,11 +12,12 @@ use Rattle.controller.specs.declared.«record».Entry.{Entry}
 use Rattle.controller.specs.declared.«record».Half.{Half}
 use Rattle.controller.specs.declared.«record».Half.the-variants.{Empty, InstructionWrite, DataWrite, StatusRead, DataRead}
 use Rattle.controller.specs.declared.«record».Record.{Record}
+use Rattle.controller.specs.declared.oscillator.Frequency.{Frequency}
 use Rattle.controller.specs.Cells.{addressSet, cellOf}
 use Rattle.lines.specs.Digits.{digit, newline}
 use Rattle.lines.specs.Line.{letterOf}
 use Rattle.lines.specs.Text.{bytesOf}
-use Rattle.drawing.specs.Numbers.{twoWide, fiveWide}
+use Rattle.drawing.specs.Numbers.{twoWide, threeWide, fiveWide}
 
 -- A setting of one bit: `1` or `0`.
 abbrev pub bitShown : Bool → ℕ
@@ -73,11 +74,17 @@ bitFields control entry =
     bytesOf "  C " ++ (bitShown (control .c)
     ∷ (bytesOf "  B " ++ (bitShown (control .b)
     ∷ (bytesOf "  I/D " ++ (bitShown (entry .id)
-    ∷ (bytesOf "  S " ++ (bitShown (entry .s) ∷ newline ∷ [])))))))
+    ∷ (bytesOf "  S " ++ (bitShown (entry .s) ∷ [])))))))
 
--- The first line: the settings.
+-- The oscillator that is fitted.
+abbrev pub frequencyField : Frequency → List ℕ
+frequencyField frequency = bytesOf "  " ++ (threeWide (frequency .khz) ++ bytesOf " kHz\n")
+
+-- The first line: the settings, and the oscillator.
 abbrev pub settingsLine : Record → List ℕ
-settingsLine rec = functionFields rec ++ (displayField (rec .control .d) ++ bitFields (rec .control) (rec .entry))
+settingsLine rec =
+    functionFields rec
+    ++ (displayField (rec .control .d) ++ (bitFields (rec .control) (rec .entry) ++ frequencyField (rec .frequency)))
 
 -- The counter's address as the manuals write it: what its address set has below the bit that names the memory, 80h or 40h.
 unfoldable pub addressShown : Bool → Counter → ℕ
@@ -112,7 +119,7 @@ stateLines rec = settingsLine rec ++ movingLine rec
 
 -- Their length.
 abbrev pub stateLength : ℕ
-stateLength = 127
+stateLength = 136
 
 -- A byte of them.
 abbrev pub stateByte : Record → ℕ → ℕ

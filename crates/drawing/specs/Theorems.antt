@@ -71,14 +71,14 @@ abbrev pub AddressTold : Type 0
 AddressTold = (n : Bool) (counter : Counter) → onCell counter ≡ true → addressShown n counter ≡ addressOf n counter
 
 -- The bytes of a drawing, each character six dots wide and nine high with the gap beside it. All but the bitmap end with the
--- state's 127. In a frame: lines of text with their ends; rows of block characters, three bytes each, two dots wide and high; two
+-- state's 136. In a frame: lines of text with their ends; rows of block characters, three bytes each, two dots wide and high; two
 -- rows of letters for each line, three places wider than it. A head of 13 and pixels eight rows high. A listing of 900.
 abbrev pub bytesFor : Form → Size → ℕ
-bytesFor Dots size = (size .columns * 6 + 2) * (size .lines * 9 + 1) + 127
-bytesFor Blocks size = ((size .columns * 3 + 2) * 3 + 1) * (size .lines * 9 / 2 + 2) + 127
-bytesFor Letters size = (size .columns + 3) * (size .lines * 2) + 127
+bytesFor Dots size = (size .columns * 6 + 2) * (size .lines * 9 + 1) + 136
+bytesFor Blocks size = ((size .columns * 3 + 2) * 3 + 1) * (size .lines * 9 / 2 + 2) + 136
+bytesFor Letters size = (size .columns + 3) * (size .lines * 2) + 136
 bytesFor Bitmap size = 13 + (size .columns * 6 + 1) * ((size .lines * 9 + 1) * 8)
-bytesFor Cells size = 900 + 127
+bytesFor Cells size = 900 + 136
 
 -- The rows of draw.
 abbrev pub drawRows : Form → Record → List ℕ → Size → ℕ → List Row

@@ -36,7 +36,7 @@ use lines::Written;
 const HEAD: usize = 13;
 
 // The length of the state's lines.
-const STATE: usize = 127;
+const STATE: usize = 136;
 
 // A line of the listing, and the nine of them.
 const LISTING_WIDTH: usize = 95;

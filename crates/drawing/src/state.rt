@@ -92,12 +92,13 @@ fn bit_shown(bit: bool) -> u8
     b'0'
 }
 
-// The settings.
-fn settings_line(rec: Record) -> [u8; 57]
+// The settings, and the oscillator.
+fn settings_line(rec: Record) -> [u8; 66]
     ensures { λ r. ⌜ r ≡ settingsLine rec ⌝ }
 {
     let on = on_off(rec.control.d);
-    let mut text = *b"width 8  lines 1  F 0  display off  C 0  B 0  I/D 1  S 0\n";
+    let khz = four_wide(rec.frequency.khz as usize);
+    let mut text = *b"width 8  lines 1  F 0  display off  C 0  B 0  I/D 1  S 0  250 kHz\n";
     text[6] = width_shown(rec.wide);
     text[15] = lines_shown(rec.function.n);
     text[20] = bit_shown(rec.function.f);
@@ -108,6 +109,9 @@ fn settings_line(rec: Record) -> [u8; 57]
     text[43] = bit_shown(rec.control.b);
     text[50] = bit_shown(rec.entry.id);
     text[55] = bit_shown(rec.entry.s);
+    text[58] = khz[1];
+    text[59] = khz[2];
+    text[60] = khz[3];
     text
 }
 
@@ -184,9 +188,9 @@ fn moving_byte(rec: Record, place: usize) -> u8
 pub fn state_byte(rec: Record, place: usize) -> u8
     ensures { λ r. ⌜ r ≡ stateByte rec place ⌝ }
 {
-    if place < 57 {
+    if place < 66 {
         let text = settings_line(rec);
         return text[place];
     }
-    moving_byte(rec, place - 57)
+    moving_byte(rec, place - 66)
 }

@@ -12,7 +12,8 @@ use Rattle.controller.specs.declared.cells.Counter.the-variants.{Display, Patte
 use Rattle.controller.specs.declared.«record».Half.{Half}
 use Rattle.controller.specs.declared.«record».Half.the-variants.{Empty, InstructionWrite, DataWrite, StatusRead, DataRead}
 use Rattle.controller.specs.declared.«record».Record.{Record}
-use Rattle.drawing.specs.State.{bitFields, counterField, displayField, functionFields, halfShown, memoryShown, onOff, settingsLine}
+use Rattle.drawing.specs.State.{bitFields, counterField, displayField, frequencyField, functionFields, halfShown, memoryShown, onOff}
+use Rattle.drawing.specs.State.{settingsLine}
 
 -- a field and what follows it, byte by byte
 pub memory-bytes : (counter : Counter) (rest : List ℕ)
@@ -36,10 +37,11 @@ on-off-bytes true rest = refl
 on-off-bytes false rest = refl
 
 -- how long the fields are
-pub settings-length : (rec : Record) → length (settingsLine rec) ≡ 57
+pub settings-length : (rec : Record) → length (settingsLine rec) ≡ 66
 settings-length rec = go (rec .control .d)
   where
-    go : (d : Bool) → length (functionFields rec ++ (displayField d ++ bitFields (rec .control) (rec .entry))) ≡ 57
+    go : (d : Bool)
+        → length (functionFields rec ++ (displayField d ++ (bitFields (rec .control) (rec .entry) ++ frequencyField (rec .frequency)))) ≡ 66
     go true = refl
     go false = refl
 

@@ -8,6 +8,12 @@ use Rattle.drawing.proofs.state.settings_line.Tie as tie
 on-off-requires : tie.Need-on-off-requires
 on-off-requires c κs = search needs
 
+cast-four-wide : tie.Need-cast-four-wide
+cast-four-wide c = search needs
+
+four-wide-requires : tie.Need-four-wide-requires
+four-wide-requires c κs = search needs
+
 width-shown-requires : tie.Need-width-shown-requires
 width-shown-requires c κs = search needs
 
@@ -68,6 +74,24 @@ bit-shown-requires-5 c κs = search needs
 array-write-text-10 : tie.Need-array-write-text-10
 array-write-text-10 c = search needs
 
+array-read-text-4 : tie.Need-array-read-text-4
+array-read-text-4 c = search needs
+
+array-write-text-11 : tie.Need-array-write-text-11
+array-write-text-11 c = search needs
+
+array-read-text-5 : tie.Need-array-read-text-5
+array-read-text-5 c = search needs
+
+array-write-text-12 : tie.Need-array-write-text-12
+array-write-text-12 c = search needs
+
+array-read-text-6 : tie.Need-array-read-text-6
+array-read-text-6 c = search needs
+
+array-write-text-13 : tie.Need-array-write-text-13
+array-write-text-13 c = search needs
+
 returns : tie.Need-returns
 returns c =
     let first = c .before .before .before .before in
@@ -80,7 +104,8 @@ returns c =
       first .bit-shown .ensures,
       first .before .lines-shown .ensures,
       first .before .before .width-shown .ensures,
-      first .before .before .before .before .before .on-off .ensures,
+      first .before .before .before .before .before .four-wide .ensures,
+      first .before .before .before .before .before .before .before .on-off .ensures,
     )
 
 pub settings-line-spec : {M : Type 1} → statement M
@@ -88,6 +113,8 @@ settings-line-spec =
     tie.close
     (tie.spec
     on-off-requires
+    cast-four-wide
+    four-wide-requires
     width-shown-requires
     array-write-text
     lines-shown-requires
@@ -108,4 +135,10 @@ settings-line-spec =
     array-write-text-9
     bit-shown-requires-5
     array-write-text-10
+    array-read-text-4
+    array-write-text-11
+    array-read-text-5
+    array-write-text-12
+    array-read-text-6
+    array-write-text-13
     returns)

@@ -1,4 +1,4 @@
--- `drawing::state::state_byte` meets its contract: the settings are 57 bytes long, and what moves stands behind them.
+-- `drawing::state::state_byte` meets its contract: the settings are 66 bytes long, and what moves stands behind them.
 -- Assumes nothing.
 use Rattle.drawing.specs.State.{stateLines}
 use Rattle.drawing.specs.State.{settingsLine, movingLine}
@@ -18,7 +18,7 @@ unfolding stateLines
 returns c =
     let rec = c .before .before .args .rec in
     simp (c .settings-line .ensures)
-    (first-byte (settingsLine rec) (movingLine rec) 57 _ (settings-length rec) (c .before .if1 .taken))
+    (first-byte (settingsLine rec) (movingLine rec) 66 _ (settings-length rec) (c .before .if1 .taken))
 
 moving-byte-requires : tie.Need-moving-byte-requires
 moving-byte-requires c κs = search needs
@@ -28,7 +28,7 @@ unfolding stateLines
 returns-2 c =
     let rec = c .before .before .args .rec in
     simp (c .moving-byte .ensures)
-    (second-byte (settingsLine rec) (movingLine rec) 57 _ (settings-length rec) (c .before .if1 .left))
+    (second-byte (settingsLine rec) (movingLine rec) 66 _ (settings-length rec) (c .before .if1 .left))
 
 pub state-byte-spec : {M : Type 1} → statement M
 state-byte-spec =
