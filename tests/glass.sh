@@ -1,7 +1,7 @@
 #!/bin/sh
 # Runs the program `glass` on every tests/glass/NAME.words, whose first word is the session and the others are the program's,
-# and compares what it writes with NAME.out, and standard error with NAME.errors where there is one; then on words that it must turn down, and on input and output
-# that are too long or closed.
+# and compares what it writes with NAME.out, and standard error with NAME.errors where there is one; then on words that it must
+# turn down, and on input and output that are too long or closed.
 # Prints 'glass: N passed, M failed', and fails where M is not 0.
 set -u
 cd "$(dirname "$0")/.." || exit 1
@@ -30,12 +30,14 @@ done
 # Words that cannot be followed: what is allowed is told on standard error, and nothing is drawn.
 cat > "$work/allowed" << 'EOF'
 glass: these words cannot be followed. Allowed are COLUMNS LINES (1 to 40, 1 or 2; without them 16 2),
-glass: --until TRANSFERS (0 to 99999) and one of --dots, --blocks, --text, --cells and --pbm
+glass: --until TRANSFERS (0 to 99999), --khz N (190 to 350; without it 250)
+glass: and one of --dots, --blocks, --text, --cells and --pbm
 EOF
 : > "$work/empty"
 for words in '0 1' '41 2' '16 0' '16 3' '16' '20 2 1' '-1 2' '1a 2' '016 2' 'x' '--bmp' '--pbm --cellss' '--pbm --cells' \
     '--cells --cells' '--dots --dots' '--text --blocks' '20 2 --cells --' '--until' '--until x' '--until 7x' '--until 100000' \
-    '--until 999999999' '--until --text' '--until 1 --until 2'; do
+    '--until 999999999' '--until --text' '--until 1 --until 2' '--khz' '--khz 189' '--khz 351' '--khz 27' '--khz 2700' \
+    '--khz 0250' '--khz 25a' '--khz --text' '--khz 250 --khz 250' '--until 1 --khz'; do
     # shellcheck disable=SC2086
     timeout 20 "$program" $words < examples/hello.session > "$work/got" 2> "$work/errors"
     same "told of: $words" "$work/errors" "$work/allowed"

@@ -46,6 +46,25 @@ printf 'no\tanswer\tbyte\tbusy\n1\t0\t00\t40\n2\t0\t80\t40\n3\t17\t00\t40\n' > "
 echo 'session: line 3, column 4: a byte is two hex digits in capitals, 00 for S and R, then a tab' > "$work/bad_told"
 plays "$work/bad" "$work/bad_report" "$work/bad_told"
 
+# At another frequency: a newer module is ready for letters every 38 microseconds, and one at 250 kHz loses every second one.
+timeout 20 "$program" --khz 270 < examples/newer_module.session > "$work/got" 2> "$work/errors"
+same '--khz 270' "$work/got" tests/session/khz_270.report
+timeout 20 "$program" --khz 250 < examples/newer_module.session > "$work/got" 2>> "$work/errors"
+same '--khz 250' "$work/got" examples/newer_module.report
+[ ! -s "$work/errors" ]
+count '--khz: nothing is told' $?
+
+# Words that cannot be followed: what is allowed is told on standard error, and nothing is played.
+echo "session: these words cannot be followed. Allowed is --khz N, the oscillator's frequency, 190 to 350; without it 250." \
+    > "$work/allowed"
+for words in '--khz' '--khz 189' '--khz 351' '--khz 0' '--khz 27' '--khz 0270' '--khz 2700' '--khz 27O' '--khz -270' '270' \
+    '--hz 270' '--khz 270 1' '--khz 270 --khz 270' '-' '--until 7'; do
+    # shellcheck disable=SC2086
+    timeout 20 "$program" $words < examples/p11.session > "$work/got" 2> "$work/errors"
+    same "told of: $words" "$work/errors" "$work/allowed"
+    same "not played: $words" "$work/got" "$work/nothing"
+done
+
 # 9,362 lines in 65,536 bytes: status reads at once after reset, and the last one after 100 microseconds.
 awk 'BEGIN { for (i = 1; i < 9362; i++) printf "S\t00\t0\n"; printf "S\t00\t100\n" }' > "$work/full"
 [ "$(wc -c < "$work/full")" -eq 65536 ]

@@ -135,8 +135,11 @@ run dots
 turns_down 'dots' 'yaropesk: no program is called dots'
 run ../crates/session
 turns_down 'a path' 'yaropesk: no program is called ../crates/session'
+run session examples/newer_module.session --khz 270
+writes 'session FILE --khz 270' tests/session/khz_270.report
 run session examples/p11.session 20 2
-turns_down 'session FILE 20 2' 'yaropesk: words too many for session: 20 2'
+turns_down 'session FILE 20 2' \
+    "session: these words cannot be followed. Allowed is --khz N, the oscillator's frequency, 190 to 350; without it 250."
 run capture examples/hello.session 20 2
 turns_down 'capture FILE 20 2' 'yaropesk: words too many for capture: 20 2'
 for name in font_sheet cuts vectors; do

@@ -37,7 +37,11 @@ fn tell_usage() {
     );
     tell(
         b"glass",
-        b"--until TRANSFERS (0 to 99999) and one of --dots, --blocks, --text, --cells and --pbm",
+        b"--until TRANSFERS (0 to 99999), --khz N (190 to 350; without it 250)",
+    );
+    tell(
+        b"glass",
+        b"and one of --dots, --blocks, --text, --cells and --pbm",
     );
 }
 
@@ -117,7 +121,8 @@ fn show(options: Options, standing: Standing) {
 
 // Plays a session, tells of a bad line, and draws what was played so far.
 fn play_and_show(options: Options, text: &[u8]) {
-    let standing = play_through(text, options.until);
+    let frequency = options.frequency;
+    let standing = play_through(text, frequency, options.until);
     let answer = standing.answer;
     if number(answer) != 0 {
         let form = options.form;

@@ -1,6 +1,10 @@
-// What is asked for on the command line: the panel's size, the form of the drawing, and how many transfers are played.
+// What is asked for on the command line: the panel's size, the form of the drawing, the oscillator's frequency, and how many
+// transfers are played.
 use check::same;
+use controller::Frequency;
+use controller::is_in_range;
 use drawing::Form;
+use lines::three_digits;
 
 pub struct Options {
     pub form: Form,
@@ -12,11 +16,22 @@ pub struct Options {
     pub numbers: u8,
     // At most so many transfers are played.
     pub until: u64,
-    // Whether the word `--until` was given, and whether its number is still to come.
+    // Whether the word `--until` was given.
     pub bounded: bool,
-    pub awaited: bool,
+    pub frequency: Frequency,
+    // Whether the word `--khz` was given.
+    pub tuned: bool,
+    // The number that is still to come.
+    pub awaited: Awaited,
     // Whether each word was understood.
     pub understood: bool,
+}
+
+// The number that the word before asks for: none, that of `--until` or that of `--khz`.
+pub enum Awaited {
+    Nothing,
+    Transfers,
+    Khz,
 }
 
 // A word of the command line.
@@ -24,6 +39,7 @@ enum Word {
     Form(Form),
     Number(u8),
     Until,
+    Khz,
     Unknown,
 }
 
@@ -113,6 +129,9 @@ fn word_of(text: &[u8]) -> Word {
     if same(text, b"--until") {
         return Word::Until;
     }
+    if same(text, b"--khz") {
+        return Word::Khz;
+    }
     number_of(text)
 }
 
@@ -155,10 +174,23 @@ fn with_until(options: Options) -> Options {
     if options.bounded {
         return not_understood(options);
     }
-    let mut next = options;
-    next.bounded = true;
-    next.awaited = true;
-    next
+    Options {
+        bounded: true,
+        awaited: Awaited::Transfers,
+        ..options
+    }
+}
+
+// So can `--khz`.
+fn with_khz(options: Options) -> Options {
+    if options.tuned {
+        return not_understood(options);
+    }
+    Options {
+        tuned: true,
+        awaited: Awaited::Khz,
+        ..options
+    }
 }
 
 fn with_word(options: Options, word: Word) -> Options {
@@ -166,19 +198,28 @@ fn with_word(options: Options, word: Word) -> Options {
         Word::Form(form) => with_form(options, form),
         Word::Number(number) => with_number(options, number),
         Word::Until => with_until(options),
+        Word::Khz => with_khz(options),
         Word::Unknown => not_understood(options),
     }
 }
 
 fn with_count(options: Options, count: Count) -> Options {
     match count {
-        Count::Of(number) => {
-            let mut next = options;
-            next.until = number;
-            next.awaited = false;
-            next
-        }
+        Count::Of(number) => Options {
+            until: number,
+            awaited: Awaited::Nothing,
+            ..options
+        },
         Count::Missing => not_understood(options),
+    }
+}
+
+// A word that is no number of three digits says 0, which no module has.
+fn with_frequency(options: Options, khz: u16) -> Options {
+    Options {
+        frequency: Frequency { khz },
+        awaited: Awaited::Nothing,
+        ..options
     }
 }
 
@@ -186,10 +227,12 @@ fn with_count(options: Options, count: Count) -> Options {
 fn with_word_at(options: Options, at: usize) -> Options {
     let mut text = [0u8; 8];
     let length = os::arg(at, &mut text);
-    if options.awaited {
-        return with_count(options, count_from(&text[..length]));
+    let awaited = options.awaited;
+    match awaited {
+        Awaited::Nothing => with_word(options, word_of(&text[..length])),
+        Awaited::Transfers => with_count(options, count_from(&text[..length])),
+        Awaited::Khz => with_frequency(options, three_digits(&text[..length])),
     }
-    with_word(options, word_of(&text[..length]))
 }
 
 // The words of the command line in turn; where they ask for no form it is the usual one.
@@ -202,7 +245,9 @@ pub fn read_options(usual: Form) -> Options {
         numbers: 0,
         until: u64::MAX,
         bounded: false,
-        awaited: false,
+        frequency: Frequency::OLDER,
+        tuned: false,
+        awaited: Awaited::Nothing,
         understood: true,
     };
     let count = os::arg_count();
@@ -215,8 +260,18 @@ pub fn read_options(usual: Form) -> Options {
     options
 }
 
-// Whether the options can be followed: each word was understood, columns and lines were given both or not at all, and `--until`
-// has its number.
+fn is_settled(awaited: Awaited) -> bool {
+    match awaited {
+        Awaited::Nothing => true,
+        Awaited::Transfers => false,
+        Awaited::Khz => false,
+    }
+}
+
+// Whether the options can be followed: each word was understood, columns and lines were given both or not at all, `--until` and
+// `--khz` have their numbers, and there is a module of this frequency.
 pub fn are_good(options: Options) -> bool {
-    options.understood && (options.numbers != 1 && !options.awaited)
+    let awaited = options.awaited;
+    let frequency = options.frequency;
+    options.understood && (options.numbers != 1 && (is_settled(awaited) && is_in_range(frequency)))
 }

@@ -1,17 +1,23 @@
-// The session program: reads a session from standard input, plays it, and writes its report to standard output. What ended or
-// spoilt the run is told on standard error. Document 01, "Session lines".
+// The session program: reads a session from standard input, plays it at the frequency that is asked for, and writes its report to
+// standard output. What ended or spoilt the run is told on standard error. Document 01, "Session lines".
+mod options;
+
 ghost use mathlib.Core.Path.{_≡_};
 ghost use Prim.Native.Nat.{_+_, _*_, _≤_};
 ghost use lib.ListN.{length};
 ghost use Rattle.controller.specs.declared.answers.Answer.the-variants.{Done};
+use controller::Frequency;
+use controller::is_in_range;
 use libc::STDOUT_FILENO;
 use lines::Written;
 use lines::first;
+use options::asked_frequency;
 use player::play;
 use player::play_through;
 use telling::INPUT;
 use telling::LIMIT;
 use telling::read_input;
+use telling::tell;
 use telling::tell_bad_line;
 use telling::tell_too_long;
 use telling::tell_unread;
@@ -21,11 +27,11 @@ use telling::tell_unwritten;
 const OUTPUT: usize = 6 * LIMIT + 62;
 
 // The report, into a buffer that always serves.
-fn write_report(text: &[u8], out: &mut [u8]) -> Written
+fn write_report(text: &[u8], frequency: Frequency, out: &mut [u8]) -> Written
     requires { ⌜ 6 * length (now text) + 62 ≤ length (now out) ⌝ }
     ensures { λ r. ⌜ r .answer ≡ Done ⌝ }
 {
-    play(text, out)
+    play(text, frequency, out)
 }
 
 fn print(text: &[u8]) {
@@ -48,24 +54,32 @@ fn ends_badly(report: &[u8]) -> bool {
 }
 
 // Tells of the bad line that ended a session.
-fn tell_end(text: &[u8]) {
-    let standing = play_through(text, u64::MAX);
+fn tell_end(text: &[u8], frequency: Frequency) {
+    let standing = play_through(text, frequency, u64::MAX);
     tell_bad_line(b"session", standing.number, text, standing.from);
 }
 
-fn report(text: &[u8])
+fn report(text: &[u8], frequency: Frequency)
     requires { ⌜ length (now text) ≤ 65536 ⌝ }
 {
     let mut out = [0u8; OUTPUT];
-    let written = write_report(text, &mut out);
+    let written = write_report(text, frequency, &mut out);
     let report = first(&out, written.length);
     print(report);
     if ends_badly(report) {
-        tell_end(text);
+        tell_end(text, frequency);
     }
 }
 
 fn main() {
+    let frequency = asked_frequency();
+    if !is_in_range(frequency) {
+        tell(
+            b"session",
+            b"these words cannot be followed. Allowed is --khz N, the oscillator's frequency, 190 to 350; without it 250.",
+        );
+        return;
+    }
     let mut input = [0u8; INPUT];
     let got = read_input(&mut input);
     if got.failed {
@@ -78,5 +92,5 @@ fn main() {
         tell_too_long(b"session", b"Nothing was played.");
         return;
     }
-    report(first(&input, length));
+    report(first(&input, length), frequency);
 }

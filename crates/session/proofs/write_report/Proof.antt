@@ -1,5 +1,5 @@
 -- `session::write_report` meets its contract: a buffer of that size is never too short. Assumes nothing.
-use mathlib.Core.Path.{_≡_, refl, ap, _∙_}
+use mathlib.Core.Path.{_≡_, ap, _∙_}
 use Prim.Native.Nat.{_+_, _*_}
 use lib.ListN.{length}
 use borrow.Author.Tests.{le-ltb}
@@ -23,7 +23,8 @@ returns c =
     let begin = c .before .before .before .before .before .before in
     let text = begin .args .text .now in
     let out = begin .args .out .now in
-    let done : playing text out .answer ≡ Done = simp (le-ltb (length out) (6 * length text + 62) (begin .pre)) in
+    let frequency = begin .args .frequency in
+    let done : playing frequency text out .answer ≡ Done = simp (le-ltb (length out) (6 * length text + 62) (begin .pre)) in
     ap (λ (w : Written). w .answer) (c .before .before .play .ensures .told) ∙ done
 
 pub write-report-spec : {M : Type 1} → statement M
