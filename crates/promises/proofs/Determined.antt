@@ -60,6 +60,7 @@ each-determined =
       plan = λ wish marks values out. two _ _ _ (record { told = refl; number = refl; buffer = refl }) (λ a l is. (is .told, is .buffer));
       hex-digit = λ number. one _;
       worth-of = λ byte. one _;
+      three-digits = λ word. one _;
       put-byte = λ out at byte. placed _;
       put-text = λ out at text. placed _;
       put-number = λ out at number. placed _;

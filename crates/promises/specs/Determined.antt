@@ -34,7 +34,7 @@ use Rattle.interface.specs.Promises.{YaropeskResetPromise, YaropeskTransferProm
 use Rattle.interface.specs.Promises.{YaropeskWriteLinePromise, YaropeskReadLinePromise, YaropeskImportPromise}
 use Rattle.lines.specs.Promises.{ReadLinePromise, WriteLinePromise, WriteRowPromise, WriteHeaderPromise, HexDigitPromise}
 use Rattle.lines.specs.Promises.{WorthOfPromise, PutTextPromise, PutBytePromise, PutNumberPromise, PutHexPromise}
-use Rattle.lines.specs.Promises.{PutAnswerPromise, FirstPromise}
+use Rattle.lines.specs.Promises.{PutAnswerPromise, FirstPromise, ThreeDigitsPromise}
 use Rattle.planner.specs.Promises.{PlanPromise}
 use Rattle.player.specs.Promises.{PlayPromise, PlayThroughPromise}
 
@@ -73,6 +73,7 @@ pub record EachDetermined : Type 0 where
       → ExactlyOne (λ (x : Planned × List ℕ). PlanPromise wish marks values out (x .0) (x .1))
   pub hex-digit : (number : ℕ) → ExactlyOne (λ (x : ℕ). HexDigitPromise number x)
   pub worth-of : (byte : ℕ) → ExactlyOne (λ (x : ℕ). WorthOfPromise byte x)
+  pub three-digits : (word : List ℕ) → ExactlyOne (λ (x : ℕ). ThreeDigitsPromise word x)
   pub put-byte : (out : List ℕ) (at byte : ℕ) → ExactlyOne (λ (x : ℕ × List ℕ). PutBytePromise out at byte (x .0) (x .1))
   pub put-text : (out : List ℕ) (at : ℕ) (text : List ℕ)
       → ExactlyOne (λ (x : ℕ × List ℕ). PutTextPromise out at text (x .0) (x .1))
