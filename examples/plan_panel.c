@@ -107,13 +107,15 @@ static void print_half(const struct controller *c) {
     printf("\n");
 }
 
-/* The wish: two lines, display on, the text on the first cells and the cursor behind it. */
+/* The wish: two lines, display on, the text on the first cells and the cursor behind it. The board does not know its
+ * module's oscillator, so that it wishes for the lowest frequency, which is safe on every module. */
 static void make_plan(struct plan *p) {
     memset(p, 0, sizeof *p);
     p->wish[YAROPESK_WISH_N] = 1;
     p->wish[YAROPESK_WISH_D] = 1;
     p->wish[YAROPESK_WISH_ID] = 1;
     p->wish[YAROPESK_WISH_CURSOR] = sizeof TEXT - 1;
+    p->wish[YAROPESK_WISH_FREQUENCY] = YAROPESK_KHZ_LEAST; /* below 256, so that its high byte is 0 */
     memset(p->marks, 1, sizeof TEXT - 1);
     memcpy(p->values, TEXT, sizeof TEXT - 1);
     uint32_t returned = yaropesk_plan(p->wish, sizeof p->wish, p->marks, sizeof p->marks, p->values, sizeof p->values,
@@ -159,7 +161,8 @@ static void run(struct controller *c, const struct plan *p, unsigned count) {
     printf("%u of %u transfers sent: the first answered %u, all others 0 or 5, none 4\n", count, p->count, first);
 }
 
-/* Every byte of the record is as wished, and every marked cell holds its value. */
+/* Every byte of the record is as wished, the frequency and the busy time as the module has them, which reset has left at
+ * 250 kHz; and every marked cell holds its value. */
 static int stands(const struct controller *c, const struct plan *p) {
     uint8_t cursor = p->wish[YAROPESK_WISH_CURSOR], want[YAROPESK_RECORD_SIZE] = {0};
     want[YAROPESK_RECORD_WIDTH] = 4;
@@ -169,6 +172,7 @@ static int stands(const struct controller *c, const struct plan *p) {
     want[YAROPESK_RECORD_REGISTER] = c->memory[cursor];
     want[YAROPESK_RECORD_FRESH] = 1;
     want[YAROPESK_RECORD_BUSY] = 40;
+    want[YAROPESK_RECORD_FREQUENCY] = YAROPESK_KHZ_OLDER;
     for (unsigned place = 0; place < YAROPESK_MEMORY_SIZE; place++)
         if (p->marks[place] == 1 && c->memory[place] != p->values[place])
             return 0;
