@@ -1,6 +1,6 @@
 //! A record and a wish as the bytes of `include/yaropesk.h`.
 //!
-//! Written from the header and document 01 alone.
+//! Written from the header and the documents alone.
 
 use std::ops::Range;
 
@@ -11,10 +11,14 @@ pub const WISH_BYTES: usize = 16;
 
 /// "16 to 19 busy in microseconds, little-endian".
 pub const BUSY_AT: Range<usize> = 16..20;
-/// "15 zero", "20 to 23 zero".
-pub const RECORD_ZEROS: [usize; 5] = [15, 20, 21, 22, 23];
-/// "9 to 15 zero".
-pub const WISH_ZEROS: Range<usize> = 9..16;
+/// "record 20 to 21: frequency in kHz, little-endian."
+pub const FREQUENCY_AT: Range<usize> = 20..22;
+/// Byte 15, and what stands behind the frequency.
+pub const RECORD_ZEROS: [usize; 3] = [15, 22, 23];
+/// "Wish 9 to 10 likewise."
+pub const WISH_FREQUENCY_AT: Range<usize> = 9..11;
+/// What stands behind the frequency.
+pub const WISH_ZEROS: Range<usize> = 11..16;
 
 /// A bit that has a byte to itself.
 fn bit(byte: u8) -> Option<bool> {
@@ -23,6 +27,11 @@ fn bit(byte: u8) -> Option<bool> {
         1 => Some(true),
         _ => None,
     }
+}
+
+/// The frequency in two bytes, in range or not.
+pub fn frequency_of(bytes: &[u8]) -> u16 {
+    u16::from_le_bytes([bytes[0], bytes[1]])
 }
 
 /// The sound record that the bytes say, if there is one: "Any other length or value is
@@ -46,6 +55,7 @@ pub fn record_of(bytes: &[u8]) -> Option<Record> {
         fresh: bit(bytes[12])?,
         half: half_of(bytes[13], bytes[14])?,
         busy: little_endian(&bytes[BUSY_AT]),
+        frequency: frequency_of(&bytes[FREQUENCY_AT]),
     };
     is_sound(&record).then_some(record)
 }
@@ -93,6 +103,7 @@ pub fn record_bytes(record: &Record) -> [u8; RECORD_BYTES] {
     let (memory, cell) = counter_bytes(record.counter);
     let (half, value) = half_bytes(record.half);
     let busy = record.busy.to_le_bytes();
+    let frequency = record.frequency.to_le_bytes();
     [
         record.width,
         record.n.into(),
@@ -114,15 +125,15 @@ pub fn record_bytes(record: &Record) -> [u8; RECORD_BYTES] {
         busy[1],
         busy[2],
         busy[3],
-        0,
-        0,
+        frequency[0],
+        frequency[1],
         0,
         0,
     ]
 }
 
-/// The wish that the bytes say: "A wish is 16 bytes", "9 to 15 zero". Whether its shift
-/// and cursor are in range, the planner sees.
+/// The wish that the bytes say: "A wish is 16 bytes", and the last of them are zero. Whether
+/// its shift, cursor and frequency are in range, the planner sees.
 pub fn wish_of(bytes: &[u8]) -> Option<Wish> {
     if bytes.len() != WISH_BYTES || bytes[WISH_ZEROS].iter().any(|&byte| byte != 0) {
         return None;
@@ -137,6 +148,7 @@ pub fn wish_of(bytes: &[u8]) -> Option<Wish> {
         s: bit(bytes[6])?,
         shift: bytes[7],
         cursor: bytes[8],
+        frequency: frequency_of(&bytes[WISH_FREQUENCY_AT]),
     })
 }
 
@@ -145,5 +157,6 @@ pub fn wish_bytes(wish: &Wish) -> [u8; WISH_BYTES] {
     let bits = [wish.n, wish.f, wish.d, wish.c, wish.b, wish.id, wish.s];
     bytes[..7].copy_from_slice(&bits.map(u8::from));
     (bytes[7], bytes[8]) = (wish.shift, wish.cursor);
+    bytes[WISH_FREQUENCY_AT].copy_from_slice(&wish.frequency.to_le_bytes());
     bytes
 }

@@ -2,10 +2,11 @@
 //!
 //! Written from the header, the documents and `model` alone.
 
-use crate::bytes::{record_bytes, record_of, wish_of, RECORD_BYTES};
+use crate::bytes::{frequency_of, record_bytes, record_of, wish_of};
+use crate::bytes::{FREQUENCY_AT, RECORD_BYTES};
 use crate::font::SHAPES;
 use crate::model::{self, Answer, Importer, Line, Reader, Record, Size, Step, Wish};
-use crate::model::{FONT, TRANSFER_BYTES};
+use crate::model::{FONT, TRANSFER_BYTES, USUAL_KHZ};
 
 /// The seven calls. Each returns the answer's number plus 256 times a byte, a count or
 /// a length; that of `read_line` plus 65,536 times an offset.
@@ -53,20 +54,22 @@ pub fn place_of(returned: u32) -> (usize, usize) {
 // The model behind the calls
 // ---------------------------------------------------------------------------
 
-/// Functions with the shapes of `record_of` and `line_call` below and of the model's;
+/// Functions with the shapes of `record_of`, `wish_of` and `line_call` and of the model's;
 /// `Step`, `Reader` and `Importer` are the model's own names for three of them.
 pub type RecordReader = fn(&[u8]) -> Option<Record>;
+pub type WishReader = fn(&[u8]) -> Option<Wish>;
 pub type LineCall = fn(Reader, &[u8], &mut [u8]) -> u32;
 pub type Resetter = fn(Record, &mut [u8]) -> (Answer, Record);
 pub type Painter = fn(&Record, &[u8], Size, bool, &mut [u8], &[u8; FONT]) -> Answer;
 pub type Planner = fn(&Wish, &[u8], &[u8], &mut [u8]) -> (Answer, usize);
 pub type Writer = fn(u8, u8, u32, &mut [u8]) -> (Answer, usize);
 
-/// The functions of the model, the reading of a record's bytes, and the call that reads a
-/// line. A wrong model is this one with a wrong function in it.
+/// The functions of the model, the readings of a record's and a wish's bytes, and the call
+/// that reads a line. A wrong model is this one with a wrong function in it.
 #[derive(Clone, Copy)]
 pub struct Model {
     pub record_of: RecordReader,
+    pub wish_of: WishReader,
     pub reset: Resetter,
     pub transfer: Step,
     pub picture: Painter,
@@ -80,6 +83,7 @@ pub struct Model {
 /// The model as it stands.
 pub const MODEL: Model = Model {
     record_of,
+    wish_of,
     reset: model::reset,
     transfer: model::transfer,
     picture: model::picture,
@@ -92,13 +96,17 @@ pub const MODEL: Model = Model {
 
 impl Calls for Model {
     /// "any 24 bytes will do for the record. Returns the answer: 0, 1 for a record that
-    /// is not 24 bytes, or 2."
+    /// is not 24 bytes, or 2." Of these bytes the frequency alone is looked at.
     #[inline]
     fn reset(&self, record: &mut [u8], memory: &mut [u8]) -> u32 {
         if record.len() != RECORD_BYTES {
             return returned(model::UNSOUND, 0);
         }
-        let (answer, new) = (self.reset)(model::record_after_reset(), memory);
+        let found = Record {
+            frequency: frequency_of(&record[FREQUENCY_AT]),
+            ..model::record_after_reset(USUAL_KHZ)
+        };
+        let (answer, new) = (self.reset)(found, memory);
         if answer == model::DONE {
             record.copy_from_slice(&record_bytes(&new));
         }
@@ -131,7 +139,7 @@ impl Calls for Model {
         if marks.len() != model::MEMORY || values.len() != model::MEMORY {
             return returned(model::WRONG_LENGTH, 0);
         }
-        let Some(wish) = wish_of(wish) else {
+        let Some(wish) = (self.wish_of)(wish) else {
             return returned(model::NOT_A_WISH, 0);
         };
         let (answer, count) = (self.plan)(&wish, marks, values, out);

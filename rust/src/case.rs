@@ -2,7 +2,8 @@
 
 use std::fmt::{self, Display, Formatter};
 
-use crate::bytes::{BUSY_AT, RECORD_BYTES, WISH_BYTES, WISH_ZEROS};
+use crate::bytes::{frequency_of, BUSY_AT, FREQUENCY_AT, RECORD_BYTES};
+use crate::bytes::{WISH_BYTES, WISH_FREQUENCY_AT, WISH_ZEROS};
 use crate::calls::{answer_of, place_of, value_of, Calls};
 use crate::model::{little_endian, Answer, Size};
 use crate::model::{BAD_BYTE, BAD_KIND, BAD_WAIT, BUSY, CROSSED, DONE, FIRST_HALF};
@@ -74,6 +75,11 @@ impl Function {
         }
     }
 
+    /// Is it lent a record or a wish? Then that comes first.
+    pub fn has_frequency(self) -> bool {
+        matches!(self.buffers()[0], "record" | "wish")
+    }
+
     fn numbers(self) -> &'static [&'static str] {
         match self {
             Function::Transfer | Function::WriteLine => &["kind", "byte", "wait"],
@@ -118,6 +124,16 @@ impl Case {
             _ => panic!("{} with {} buffers", self.function.name(), buffers.len()),
         };
         Outcome { returned, buffers }
+    }
+
+    /// The frequency in the record or the wish that is lent, if that has its length.
+    pub fn frequency(&self) -> Option<u16> {
+        let first = self.buffers.first()?;
+        match (self.function.buffers()[0], first.len()) {
+            ("record", RECORD_BYTES) => Some(frequency_of(&first[FREQUENCY_AT])),
+            ("wish", WISH_BYTES) => Some(frequency_of(&first[WISH_FREQUENCY_AT])),
+            _ => None,
+        }
     }
 
     /// The simplest call found that still shows what `shows` asks for: first with less
@@ -209,17 +225,20 @@ fn fields(names: &[&str], bytes: &[u8]) -> String {
 fn record_shown(bytes: &[u8]) -> String {
     let named = fields(&RECORD_FIELDS, bytes);
     let busy = little_endian(&bytes[BUSY_AT]);
+    let frequency = frequency_of(&bytes[FREQUENCY_AT]);
     let zeros = (
         hex(&bytes[RECORD_FIELDS.len()..BUSY_AT.start]),
-        hex(&bytes[BUSY_AT.end..]),
+        hex(&bytes[FREQUENCY_AT.end..]),
     );
-    format!("{named} busy={busy} zeros {} and {}", zeros.0, zeros.1)
+    let (first, last) = zeros;
+    format!("{named} busy={busy} kHz={frequency} zeros {first} and {last}")
 }
 
 fn wish_shown(bytes: &[u8]) -> String {
     format!(
-        "{} zeros {}",
+        "{} kHz={} zeros {}",
         fields(&WISH_FIELDS, bytes),
+        frequency_of(&bytes[WISH_FREQUENCY_AT]),
         hex(&bytes[WISH_ZEROS])
     )
 }

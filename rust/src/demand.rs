@@ -5,21 +5,24 @@
 //! then stands as wished, no transfer was refused as busy, and every cell the wish does
 //! not name holds what it held before the first run. One cell is excepted: the one that
 //! a data write, half sent by whomever and still waiting when we began, was meant for."
+//!
+//! Document 02, d: "Demand 3 now has the premise that the wish's frequency is the record's."
+//! Reading 31: a wish for a lower one must serve too, since its plan waits no shorter.
 
 use std::fmt::{self, Display, Formatter};
 
-use crate::bytes::{record_bytes, wish_of};
+use crate::bytes::{record_bytes, wish_bytes};
 use crate::calls::{answer_of, value_of};
 use crate::case::{shown, Case, Function, Outcome};
-use crate::model::{self, Counter, Half, Record, Transfer, Wish};
-use crate::model::{MEMORY, PLAN_BYTES, SHORT_TIME, TRANSFER_BYTES};
-use crate::random::{sound_marks, sound_record, sound_wish, whole_memory, Chance};
+use crate::model::{self, time_at, Counter, Half, Record, Transfer, Wish};
+use crate::model::{FREQUENCIES, MEMORY, PLAN_BYTES, SHORT_TIME, TRANSFER_BYTES};
+use crate::random::{any_frequency, sound_marks, sound_record, sound_wish, whole_memory, Chance};
 
 /// A start, a wish, and the places where the board stops.
 pub struct Trial {
     start: Record,
     memory: Vec<u8>,
-    wish: Vec<u8>,
+    wish: Wish,
     marks: Vec<u8>,
     values: Vec<u8>,
     /// Where each cut run stops, of a hundred parts of the plan.
@@ -35,12 +38,28 @@ struct Panel {
 }
 
 impl Trial {
+    /// A trial that keeps the premise, or has a wish for a lower frequency.
     pub fn random(chance: &mut Chance) -> Trial {
+        let lowest = *FREQUENCIES.start();
+        let fitted = any_frequency(chance);
+        let lower = chance.between(lowest.into(), fitted.into()) as u16;
+        let wished = chance.pick(&[fitted, fitted, fitted, lower, lowest]);
+        Trial::at(chance, fitted, wished)
+    }
+
+    /// A trial with these frequencies in the record and in the wish.
+    pub fn at(chance: &mut Chance, fitted: u16, wished: u16) -> Trial {
         let longer = [0, 0, 0, 1, 39, 10_000, u32::MAX];
         Trial {
-            start: sound_record(chance),
+            start: Record {
+                frequency: fitted,
+                ..sound_record(chance)
+            },
             memory: whole_memory(chance),
-            wish: sound_wish(chance),
+            wish: Wish {
+                frequency: wished,
+                ..sound_wish(chance)
+            },
             marks: sound_marks(chance),
             values: chance.bytes(MEMORY),
             cuts: (0..chance.below(6)).map(|_| chance.below(101)).collect(),
@@ -73,7 +92,7 @@ impl Trial {
         Case {
             function: Function::Plan,
             buffers: vec![
-                self.wish.clone(),
+                wish_bytes(&self.wish).to_vec(),
                 self.marks.clone(),
                 self.values.clone(),
                 vec![0; PLAN_BYTES],
@@ -124,8 +143,8 @@ impl Trial {
                 return Err(format!("cell {cell} holds {found:02X}h, not {due:02X}h"));
             }
         }
-        let wish = wish_of(&self.wish).ok_or("the planner took what is no wish")?;
-        let due = record_bytes(&wished_record(&wish, &panel.memory));
+        let wished = wished_record(&self.wish, self.start.frequency, &panel.memory);
+        let due = record_bytes(&wished);
         if panel.record != due {
             let (found, due) = (shown("record", &panel.record), shown("record", &due));
             return Err(format!("the record is not as wished:\n  {found}\n  {due}"));
@@ -134,8 +153,9 @@ impl Trial {
     }
 }
 
-/// Reading 12: "Stands as wished" fixes the whole record.
-pub fn wished_record(wish: &Wish, memory: &[u8]) -> Record {
+/// Reading 12: "Stands as wished" fixes the whole record. The frequency is the one that is
+/// fitted, and Display Control has taken its time at it.
+pub fn wished_record(wish: &Wish, fitted: u16, memory: &[u8]) -> Record {
     Record {
         width: 4,
         n: wish.n,
@@ -149,9 +169,9 @@ pub fn wished_record(wish: &Wish, memory: &[u8]) -> Record {
         counter: Counter::Display(wish.cursor),
         register: memory[usize::from(wish.cursor)],
         fresh: true,
-        busy: SHORT_TIME,
+        busy: time_at(fitted, SHORT_TIME),
         // No half, as after reset.
-        ..model::record_after_reset()
+        ..model::record_after_reset(fitted)
     }
 }
 
@@ -163,7 +183,7 @@ impl Display for Trial {
             shown("record", &record_bytes(&self.start))
         )?;
         writeln!(to, "  start {}", shown("memory", &self.memory))?;
-        writeln!(to, "  {}", shown("wish", &self.wish))?;
+        writeln!(to, "  {}", shown("wish", &wish_bytes(&self.wish)))?;
         writeln!(to, "  {}", shown("marks", &self.marks))?;
         writeln!(to, "  {}", shown("values", &self.values))?;
         write!(to, "  cut after {:?} hundredths of the plan", self.cuts)

@@ -1,12 +1,13 @@
 //! What the program `glass` writes, on the model: a panel as dots in a frame, as block
 //! characters, as letters, as a bitmap or as a list of its cells.
 //!
-//! Written from README.md ("See the glass"), the stored drawings under tests/glass/ and
-//! document 01 alone, apart from the proved code.
+//! Written from README.md ("See the glass"), the stored drawings under tests/glass/ and the
+//! documents alone, apart from the proved code.
 
 use crate::calls::{Model, MODEL};
 use crate::font::SHAPES;
-use crate::model::{self, Counter, Half, Played, Record, Size, DISPLAY_CELLS};
+use crate::model::{self, Counter, Half, Played, Record, Size};
+use crate::model::{DISPLAY_CELLS, USUAL_KHZ};
 use crate::programs::Written;
 
 #[derive(Clone, Copy, Debug, PartialEq, Eq)]
@@ -42,6 +43,34 @@ impl Form {
 
 /// The size that need not be said.
 pub const USUAL: Size = Size::new(16, 2);
+
+/// What the program is asked for.
+#[derive(Clone, Copy, Debug, PartialEq, Eq)]
+pub struct Asked {
+    pub size: Size,
+    pub form: Form,
+    /// How many transfers are played at most.
+    pub until: Option<usize>,
+    /// The frequency that is fitted, in kHz.
+    pub frequency: Option<u16>,
+}
+
+impl Asked {
+    /// What need not be said.
+    pub const USUAL: Asked = Asked {
+        size: USUAL,
+        form: Form::Dots,
+        until: None,
+        frequency: None,
+    };
+
+    /// The text, played by a model.
+    pub fn played(&self, text: &[u8], model: &Model) -> Played {
+        let until = self.until.unwrap_or(usize::MAX);
+        let frequency = self.frequency.unwrap_or(USUAL_KHZ);
+        model::play_until(text, until, frequency, model.read_line, model.transfer)
+    }
+}
 
 /// One place of the drawn glass: a dot, or the gap between two characters or lines.
 #[derive(Clone, Copy, Debug, PartialEq, Eq)]
@@ -94,9 +123,9 @@ pub const DRAWING: Drawing = Drawing {
 // ---------------------------------------------------------------------------
 
 impl Drawing {
-    /// What the program `glass` writes for a session, of which at most so many transfers
-    /// are played.
-    pub fn program(&self, text: &[u8], size: Size, form: Form, until: usize) -> Written {
+    /// What the program `glass` writes for a session.
+    pub fn program(&self, text: &[u8], asked: &Asked) -> Written {
+        let Asked { size, form, .. } = *asked;
         let mut written = Written::default();
         // Words beside a bitmap go elsewhere, so that it stands alone.
         let told = match form {
@@ -109,7 +138,7 @@ impl Drawing {
             written.errors.extend(words.into_bytes());
             return written;
         }
-        let played = model::play_until(text, until, self.model.read_line, self.model.transfer);
+        let played = asked.played(text, &self.model);
         if let Some(bad_line) = played.bad_line {
             told.extend_from_slice(model::HEADER.as_bytes());
             told.extend_from_slice(&played.report.as_bytes()[bad_line.row..]);
@@ -401,9 +430,10 @@ pub fn state(rec: &Record) -> String {
         Half::StatusRead(byte) => format!("S {byte:02X}"),
         Half::DataRead(byte) => format!("R {byte:02X}"),
     };
-    let (width, shift, busy) = (rec.width, rec.shift, rec.busy);
+    let (width, shift, busy, khz) = (rec.width, rec.shift, rec.busy, rec.frequency);
     format!(
-        "width {width}  lines {lines}  F {f}  display {display:<3}  C {c}  B {b}  I/D {id}  S {s}\n\
+        "width {width}  lines {lines}  F {f}  display {display:<3}  C {c}  B {b}  I/D {id}  S {s}  \
+         {khz} kHz\n\
          counter {memory} cell {cell:>2}, address {address:02X}h  \
          shift {shift:>2}  busy {busy:>5}  half {half}\n"
     )

@@ -57,6 +57,12 @@ impl Ran {
     }
 }
 
+/// The words that ask a program for a frequency; where none is asked for it takes 250 kHz.
+pub fn frequency_words(frequency: Option<u16>) -> Vec<String> {
+    let words = frequency.map(|khz| [String::from("--khz"), khz.to_string()]);
+    words.into_iter().flatten().collect()
+}
+
 /// Runs a program with these words on a text.
 pub fn run(program: &str, words: &[String], text: &[u8]) -> Ran {
     let spawned = Command::new(program)

@@ -3,29 +3,29 @@
 use std::fs;
 use std::path::{Path, PathBuf};
 
-use yaropesk_model::drawing::{Form, DRAWING, FORMS, USUAL};
+use yaropesk_model::drawing::{Asked, DRAWING, FORMS};
 use yaropesk_model::model::Size;
 
-/// The size, the form and the number of transfers that the words ask for.
-fn wanted<'a>(mut words: impl Iterator<Item = &'a str>) -> (Size, Form, usize) {
-    let mut form = Form::Dots;
-    let mut until = usize::MAX;
+/// What the words ask for.
+fn wanted<'a>(mut words: impl Iterator<Item = &'a str>) -> Asked {
+    let mut asked = Asked::USUAL;
     let mut numbers = Vec::new();
     while let Some(word) = words.next() {
-        if let Some(asked) = FORMS.into_iter().find(|form| form.word() == word) {
-            form = asked;
-        } else if word == "--until" {
-            let most = words.next().expect("a number of transfers");
-            until = most.parse().expect("a number");
-        } else {
-            numbers.push(word.parse().expect("a number"));
+        if let Some(form) = FORMS.into_iter().find(|form| form.word() == word) {
+            asked.form = form;
+            continue;
+        }
+        let mut number = || words.next().and_then(|next| next.parse().ok());
+        match word {
+            "--until" => asked.until = Some(number().expect("a number of transfers")),
+            "--khz" => asked.frequency = Some(number().expect("a frequency") as u16),
+            _ => numbers.push(word.parse().expect("a number")),
         }
     }
-    let size = match numbers[..] {
-        [columns, lines] => Size::new(columns, lines),
-        _ => USUAL,
-    };
-    (size, form, until)
+    if let [columns, lines] = numbers[..] {
+        asked.size = Size::new(columns, lines);
+    }
+    asked
 }
 
 fn stored_words(root: &Path) -> Vec<PathBuf> {
@@ -46,8 +46,7 @@ fn stored_drawings_are_drawn() {
         let mut words = words.split_whitespace();
         let session = root.join(words.next().expect("a session"));
         let text = fs::read(session).expect("a session's text");
-        let (size, form, until) = wanted(words);
-        let written = DRAWING.program(&text, size, form, until);
+        let written = DRAWING.program(&text, &wanted(words));
         let drawn = fs::read(path.with_extension("out")).expect("a drawing");
         assert!(written.output == drawn, "{}", path.display());
     }

@@ -24,7 +24,8 @@ use yaropesk_model::library::Library;
 use yaropesk_model::model::capture::{E, SIGNALS};
 use yaropesk_model::model::{self, Half, Record, Size, Transfer, Wish};
 use yaropesk_model::model::{DATA_READ, DATA_WRITE, INSTRUCTION_WRITE, STATUS_READ};
-use yaropesk_model::model::{LINE_BYTES, MEMORY, PLAN_BYTES, SESSION_BYTES, TRANSFER_BYTES};
+use yaropesk_model::model::{LINE_BYTES, MEMORY, PLAN_BYTES, SESSION_BYTES};
+use yaropesk_model::model::{TRANSFER_BYTES, USUAL_KHZ};
 use yaropesk_model::random::{sound_record, whole_memory, Chance, SEED};
 
 const ROUNDS: usize = 60;
@@ -133,7 +134,7 @@ fn start(width: u8) -> Record {
         n: true,
         d: true,
         busy: 0,
-        ..model::record_after_reset()
+        ..model::record_after_reset(USUAL_KHZ)
     }
 }
 

@@ -7,7 +7,8 @@
 //! Every call goes to both sides with the same bytes; what they return and all the
 //! bytes they were lent must be equal. On a difference the call is made simpler, shown
 //! with both outcomes, and the exit is 1. Every answer that a function can give must
-//! have come up, or the run fails. With `--wrong` a deliberately wrong model takes the
+//! have come up, and the ends of a frequency's range in every record and wish, or the run
+//! fails. With `--wrong` a deliberately wrong model takes the
 //! model's place, and the exit is 1 once it is found out; `--wrong=all` tries each, and
 //! the exit is 0 if all were found out. Imports are compared by `compare_captures`.
 
@@ -17,7 +18,7 @@ use yaropesk_model::demand::Trial;
 use yaropesk_model::library::Library;
 use yaropesk_model::model::Answer;
 use yaropesk_model::options::Options;
-use yaropesk_model::random::{self, Chance, SEED};
+use yaropesk_model::random::{self, Chance, FREQUENCY_EDGES, SEED};
 use yaropesk_model::tally::Tally;
 use yaropesk_model::wrong;
 
@@ -29,11 +30,13 @@ const SEQUENCES: u64 = 200;
 const SEQUENCE_TRANSFERS: u64 = 2_000;
 const TRIALS: u64 = 1_000;
 
-/// The model beside the library, and how often each function has given each answer.
+/// The model beside the library, how often each function has given each answer, and which of
+/// the frequencies that must come up were in what it was lent.
 struct Comparison {
     model: Model,
     seed: u64,
     counts: [Tally; FUNCTIONS.len()],
+    frequencies: [[bool; FREQUENCY_EDGES.len()]; FUNCTIONS.len()],
 }
 
 /// Why a run stops, ready to be shown.
@@ -46,7 +49,13 @@ impl Comparison {
         if ours != case.run(&self.model) {
             return Err(self.difference(case));
         }
-        self.counts[case.function as usize].count(answer_of(ours.returned));
+        let function = case.function as usize;
+        self.counts[function].count(answer_of(ours.returned));
+        let frequency = case.frequency();
+        let met = |edge: &u16| Some(*edge) == frequency;
+        if let Some(at) = FREQUENCY_EDGES.iter().position(met) {
+            self.frequencies[function][at] = true;
+        }
         Ok(ours)
     }
 
@@ -133,13 +142,27 @@ impl Comparison {
         Ok(())
     }
 
+    /// Every function that is lent a record or a wish has met all these frequencies.
+    fn all_frequencies_seen(&self) -> Stop {
+        for function in FUNCTIONS.into_iter().filter(|each| each.has_frequency()) {
+            let seen = self.frequencies[function as usize];
+            let missed = FREQUENCY_EDGES.iter().zip(seen).find(|(_, seen)| !seen);
+            if let Some((edge, _)) = missed {
+                let name = function.name();
+                return Err(format!("{name} has not met the frequency {edge}"));
+            }
+        }
+        Ok(())
+    }
+
     fn run(&mut self, calls: u64) -> Stop {
         self.every_kind_and_byte()?;
         self.random_calls(calls)?;
         self.damaged_lines()?;
         self.sequences()?;
         self.trials()?;
-        self.all_answers_seen()
+        self.all_answers_seen()?;
+        self.all_frequencies_seen()
     }
 
     fn counted(&self, function: Function) -> String {
@@ -154,6 +177,7 @@ fn compare(model: Model, seed: u64, calls: u64) -> bool {
         model,
         seed,
         counts: Default::default(),
+        frequencies: Default::default(),
     };
     let stop = comparison.run(calls);
     if let Err(why) = &stop {

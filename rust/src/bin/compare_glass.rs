@@ -4,21 +4,21 @@
 //! compare_glass PROGRAM [SEED] [RUNS] [--wrong | --wrong=NAME | --wrong=all]
 //! ```
 //!
-//! Each run has a text, a size of the glass, a form and at times a number of transfers;
-//! every byte that PROGRAM writes to
-//! standard output and standard error must be the drawing's, but for the words in which a
-//! bad line is told behind its place. On a difference text and
-//! size are made smaller, both drawings shown, and the exit is 1. With `--wrong` a
-//! deliberately wrong drawing takes the drawing's place; `--wrong=all` tries each, and
-//! the exit is 0 if all were found out.
+//! Each run has a text, a size of the glass, a form and at times a number of transfers and a
+//! frequency; every byte that PROGRAM writes to standard output and standard error must be
+//! the drawing's, but for the words in which a bad line is told behind its place. On a
+//! difference text and size are made smaller, both drawings shown, and the exit is 1. With
+//! `--wrong` a deliberately wrong drawing takes the drawing's place; `--wrong=all` tries
+//! each, and the exit is 0 if all were found out.
 
 use std::fmt::{self, Display, Formatter};
 
-use yaropesk_model::drawing::{Drawing, Form, DRAWING, FORMS, USUAL};
-use yaropesk_model::model::{self, Half, Size, SESSION_BYTES};
+use yaropesk_model::calls::MODEL;
+use yaropesk_model::drawing::{Asked, Drawing, Form, DRAWING, FORMS, USUAL};
+use yaropesk_model::model::{Half, Size, SESSION_BYTES, USUAL_KHZ};
 use yaropesk_model::options::Options;
-use yaropesk_model::programs::{run, show, shrink, Ran, Written};
-use yaropesk_model::random::{random_panel_text, Chance, SEED};
+use yaropesk_model::programs::{frequency_words, run, show, shrink, Ran, Written};
+use yaropesk_model::random::{asked_frequency, random_panel_text, Chance, SEED};
 use yaropesk_model::wrong::drawings;
 
 const DEFAULT_RUNS: u64 = 2_000;
@@ -26,62 +26,65 @@ const DEFAULT_RUNS: u64 = 2_000;
 /// The words' generators lie past those of the texts.
 const WORDS: u64 = 1 << 41;
 
-/// What is asked for: a size, a form and how many transfers are played at most, and the
-/// words that say so.
+/// What is asked for, and the words that say so.
 #[derive(Clone)]
 struct Wanted {
-    size: Size,
-    form: Form,
-    until: Option<usize>,
+    asked: Asked,
     words: Vec<String>,
 }
 
 impl Wanted {
-    fn new(size: Size, form: Form, until: Option<usize>, form_first: bool) -> Wanted {
-        let numbers = [size.columns.to_string(), size.lines.to_string()];
-        let form_word = [String::from(form.word())];
-        let mut words = match form_first {
-            true => [&form_word[..], &numbers[..]].concat(),
-            false => [&numbers[..], &form_word[..]].concat(),
-        };
-        if let Some(most) = until {
-            words.extend([String::from("--until"), most.to_string()]);
-        }
-        Wanted {
-            size,
-            form,
-            until,
-            words,
-        }
+    /// All that is asked for is said, in the usual order.
+    fn new(asked: Asked) -> Wanted {
+        let words = said(&asked).concat();
+        Wanted { asked, words }
     }
 
-    /// Any size and form, the usual sizes more often; the words in either order; and in
-    /// some runs a number of transfers.
+    /// Any size and form, the usual sizes more often; in some runs a number of transfers and
+    /// a frequency; the words in any order, and what need not be said at times not said.
     fn random(chance: &mut Chance) -> Wanted {
         let any = chance.between(1, 40) as u8;
         let columns = chance.pick(&[1, 16, 20, 40, any, any, any, any]);
-        let size = Size::new(columns, chance.pick(&[1, 2]));
-        let form = chance.pick(&FORMS);
         let most = chance.between(0, 60) as usize;
-        let until = chance.percent(25).then_some(most);
-        let mut wanted = Wanted::new(size, form, until, chance.percent(50));
-        if size == USUAL && until.is_none() && chance.percent(50) {
-            wanted.words.retain(|word| word.starts_with("--"));
+        let asked = Asked {
+            size: Size::new(columns, chance.pick(&[1, 2])),
+            form: chance.pick(&FORMS),
+            until: chance.percent(25).then_some(most),
+            frequency: asked_frequency(chance),
+        };
+        let [mut size, mut form, until, frequency] = said(&asked);
+        if asked.size == USUAL && chance.percent(50) {
+            size.clear();
         }
-        if form == Form::Dots && chance.percent(50) {
-            wanted.words.retain(|word| word != form.word());
+        if asked.form == Form::Dots && chance.percent(50) {
+            form.clear();
         }
-        wanted
+        let mut words = [size, form, until, frequency];
+        for at in 1..words.len() {
+            words.swap(at, chance.index(at + 1));
+        }
+        let words = words.concat();
+        Wanted { asked, words }
     }
 
     /// The same of a smaller glass.
     fn sized(&self, size: Size) -> Wanted {
-        Wanted::new(size, self.form, self.until, false)
+        Wanted::new(Asked { size, ..self.asked })
     }
+}
 
-    fn most(&self) -> usize {
-        self.until.unwrap_or(usize::MAX)
-    }
+/// The words for the size, the form, the number of transfers and the frequency.
+fn said(asked: &Asked) -> [Vec<String>; 4] {
+    let Size { columns, lines } = asked.size;
+    let until = asked
+        .until
+        .map(|most| [String::from("--until"), most.to_string()]);
+    [
+        vec![columns.to_string(), lines.to_string()],
+        vec![String::from(asked.form.word())],
+        until.into_iter().flatten().collect(),
+        frequency_words(asked.frequency),
+    ]
 }
 
 impl Display for Wanted {
@@ -103,8 +106,7 @@ impl Pair<'_> {
     }
 
     fn drawing_writes(&self, wanted: &Wanted, text: &[u8]) -> Written {
-        self.drawing
-            .program(text, wanted.size, wanted.form, wanted.most())
+        self.drawing.program(text, &wanted.asked)
     }
 
     fn differs(&self, wanted: &Wanted, text: &[u8]) -> bool {
@@ -114,9 +116,9 @@ impl Pair<'_> {
 
     /// The smallest glass on which they still differ.
     fn smallest(&self, wanted: &Wanted, text: &[u8]) -> Wanted {
-        let sizes = (1..=wanted.size.lines).flat_map(|lines| {
-            (1..=wanted.size.columns).map(move |columns| Size::new(columns, lines))
-        });
+        let Size { columns, lines } = wanted.asked.size;
+        let sizes = (1..=lines)
+            .flat_map(|lines| (1..=columns).map(move |columns| Size::new(columns, lines)));
         sizes
             .map(|size| wanted.sized(size))
             .find(|smaller| self.differs(smaller, text))
@@ -146,6 +148,7 @@ impl Pair<'_> {
 struct Reached {
     forms: [u64; 5],
     bounded: u64,
+    tuned: u64,
     refused: u64,
     bad_lines: u64,
     too_long: u64,
@@ -155,13 +158,20 @@ struct Reached {
 
 impl Reached {
     fn count(&mut self, wanted: &Wanted, text: &[u8]) {
-        self.forms[wanted.form as usize] += 1;
+        let Asked {
+            form,
+            until,
+            frequency,
+            ..
+        } = wanted.asked;
+        self.forms[form as usize] += 1;
         if text.len() > SESSION_BYTES {
             self.too_long += 1;
             return;
         }
-        let played = model::play_until(text, wanted.most(), model::read_line, model::transfer);
-        self.bounded += u64::from(wanted.until.is_some());
+        let played = wanted.asked.played(text, &MODEL);
+        self.bounded += u64::from(until.is_some());
+        self.tuned += u64::from(frequency.is_some());
         self.refused += u64::from(played.refused > 0);
         self.bad_lines += u64::from(played.bad_line.is_some());
         self.displays_on += u64::from(played.rec.d);
@@ -175,8 +185,8 @@ impl Display for Reached {
         writeln!(
             to,
             "dots {dots}, blocks {blocks}, letters {letters}, bitmap {bitmap}, cells {cells}; \
-             so many transfers only {}",
-            self.bounded
+             so many transfers only {}, a frequency named {}",
+            self.bounded, self.tuned
         )?;
         write!(
             to,
@@ -190,8 +200,9 @@ impl Display for Reached {
 fn compare(pair: Pair, seed: u64, runs: u64) -> bool {
     let mut reached = Reached::default();
     for number in 0..runs {
-        let text = random_panel_text(seed, number);
         let wanted = Wanted::random(&mut Chance::new(seed, WORDS + number));
+        let frequency = wanted.asked.frequency.unwrap_or(USUAL_KHZ);
+        let text = random_panel_text(seed, number, frequency);
         if pair.differs(&wanted, &text) {
             println!("difference at run {number} of seed {seed}, words {wanted}");
             pair.show_difference(&wanted, &text);

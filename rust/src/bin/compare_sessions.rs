@@ -4,7 +4,8 @@
 //! compare_sessions PROGRAM [SEED] [TEXTS] [--wrong | --wrong=NAME | --wrong=all]
 //! ```
 //!
-//! PROGRAM reads a session from standard input and prints its report; on standard error it
+//! PROGRAM reads a session from standard input and prints its report, played at the
+//! frequency that `--khz` names, or at 250 kHz; on standard error it
 //! tells the place of a bad line, and the words behind that are not compared. On a
 //! difference the text is shrunk, shown with both reports, and the exit is 1. Every answer
 //! that a report can have must have come up, or the run fails.
@@ -13,12 +14,12 @@
 //! exit is 0 if each was found out that can be, and 1 if one was not.
 
 use yaropesk_model::calls::{Model, MODEL};
-use yaropesk_model::model::{self, Answer};
+use yaropesk_model::model::{self, Answer, USUAL_KHZ};
 use yaropesk_model::model::{BAD_BYTE, BAD_KIND, BAD_WAIT, NO_NEWLINE};
 use yaropesk_model::model::{BUSY, CROSSED, DONE, FIRST_HALF, NO_CELL, STALE};
 use yaropesk_model::options::Options;
-use yaropesk_model::programs::{run, show, shrink, Written};
-use yaropesk_model::random::{random_text, SEED};
+use yaropesk_model::programs::{frequency_words, run, show, shrink, Ran, Written};
+use yaropesk_model::random::{asked_frequency, random_text, Chance, SEED};
 use yaropesk_model::tally::Tally;
 use yaropesk_model::wrong;
 
@@ -27,61 +28,95 @@ const DEFAULT_TEXTS: u64 = 2_000;
 /// What the program calls itself on standard error.
 const NAME: &str = "session";
 
+/// The frequencies' generators lie past those of the texts.
+const ASKED: u64 = 1 << 41;
+
 /// What a row of a report can be answered: a transfer after reset is neither unsound nor
 /// without its memory, and its kind is one of the four.
 const ANSWERS: [Answer; 10] = [
     DONE, BUSY, FIRST_HALF, NO_CELL, STALE, CROSSED, BAD_KIND, BAD_BYTE, BAD_WAIT, NO_NEWLINE,
 ];
 
-/// What the model would write to standard output and standard error.
-fn session(model: Model, text: &[u8]) -> Written {
-    if text.len() > model::SESSION_BYTES {
-        return Written {
-            output: model::TOO_LONG.to_vec(),
-            errors: model::told_too_long(NAME).into_bytes(),
-        };
-    }
-    let played = model::play(text, model.read_line, model.transfer);
-    Written {
-        errors: played.told(NAME).into_bytes(),
-        output: played.report.into_bytes(),
-    }
+/// A program beside a model, and the frequency that both are asked for.
+#[derive(Clone, Copy)]
+struct Pair<'a> {
+    program: &'a str,
+    model: Model,
+    asked: Option<u16>,
 }
 
-fn differs(program: &str, model: Model, text: &[u8]) -> bool {
-    !run(program, &[], text).is(&session(model, text))
-}
+impl Pair<'_> {
+    fn frequency(&self) -> u16 {
+        self.asked.unwrap_or(USUAL_KHZ)
+    }
 
-/// Shows the shortest text on which program and model differ.
-fn show_difference(program: &str, model: Model, text: &[u8]) {
-    let short = shrink(text, |text| differs(program, model, text));
-    let (ran, due) = (run(program, &[], &short), session(model, &short));
-    show("shortest text", &short);
-    show("the program prints", &ran.written.output);
-    show("the model prints", &due.output);
-    ran.show_faults(&due);
+    fn program_writes(&self, text: &[u8]) -> Ran {
+        run(self.program, &frequency_words(self.asked), text)
+    }
+
+    /// What the model would write to standard output and standard error.
+    fn model_writes(&self, text: &[u8]) -> Written {
+        if text.len() > model::SESSION_BYTES {
+            return Written {
+                output: model::TOO_LONG.to_vec(),
+                errors: model::told_too_long(NAME).into_bytes(),
+            };
+        }
+        let Model {
+            read_line,
+            transfer,
+            ..
+        } = self.model;
+        let played = model::play(text, self.frequency(), read_line, transfer);
+        Written {
+            errors: played.told(NAME).into_bytes(),
+            output: played.report.into_bytes(),
+        }
+    }
+
+    fn differs(&self, text: &[u8]) -> bool {
+        !self.program_writes(text).is(&self.model_writes(text))
+    }
+
+    /// Shows the shortest text on which program and model differ.
+    fn show_difference(&self, text: &[u8]) {
+        let short = shrink(text, |text| self.differs(text));
+        let (ran, due) = (self.program_writes(&short), self.model_writes(&short));
+        println!("the words: {}", frequency_words(self.asked).join(" "));
+        show("shortest text", &short);
+        show("the program prints", &ran.written.output);
+        show("the model prints", &due.output);
+        ran.show_faults(&due);
+    }
 }
 
 /// Compares on so many texts; true when a difference was found, or an answer missed (and
 /// shown).
 fn compare(program: &str, model: Model, seed: u64, texts: u64) -> bool {
-    let (mut bytes, mut at_limit, mut too_long) = (0, 0, 0);
+    let (mut bytes, mut at_limit, mut too_long, mut tuned) = (0, 0, 0, 0);
     let mut answers = Tally::default();
     for number in 0..texts {
-        let text = random_text(seed, number);
+        let asked = asked_frequency(&mut Chance::new(seed, ASKED + number));
+        let pair = Pair {
+            program,
+            model,
+            asked,
+        };
+        let text = random_text(seed, number, pair.frequency());
         let length = text.len();
+        tuned += u64::from(asked.is_some());
         bytes += length;
         at_limit += u64::from(length == model::SESSION_BYTES);
         too_long += u64::from(length > model::SESSION_BYTES);
-        if differs(program, model, &text) {
+        if pair.differs(&text) {
             println!("difference at text {number} of seed {seed}, {length} bytes long");
-            show_difference(program, model, &text);
+            pair.show_difference(&text);
             return true;
         }
-        count_answers(&session(model, &text).output, &mut answers);
+        count_answers(&pair.model_writes(&text).output, &mut answers);
     }
     println!("{texts} texts of seed {seed}, {bytes} bytes: no difference");
-    println!("{at_limit} texts of 65,536 bytes, {too_long} longer");
+    println!("{at_limit} texts of 65,536 bytes, {too_long} longer; a frequency named {tuned}");
     println!("answers seen: {answers}");
     answers.misses(&ANSWERS)
 }

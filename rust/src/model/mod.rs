@@ -1,11 +1,11 @@
 //! The rules of document 01 (`01-scope.md`) in plain Rust, a file for each of its chapters;
 //! "Session lines" has two. Of document 02 (`02-change-requests.md`) request b has a folder,
-//! `capture/`, and request c is in `lines.rs`.
+//! `capture/`, request c is in `lines.rs`, and request d in `oscillator.rs`.
 //!
 //! Written from the documents alone, apart from the proved code.
-//! Sentences in quotation marks are those of document 01, and in `capture/` and `lines.rs`
-//! those of the requests; "reading n" is the n-th reading of docs/DECISIONS.md. Time is
-//! whole microseconds.
+//! Sentences in quotation marks are those of document 01, and in `capture/`, `lines.rs` and
+//! `oscillator.rs` those of the requests; "reading n" is the n-th reading of
+//! docs/DECISIONS.md. Time is whole microseconds.
 //!
 //! Every function is total, and a refusal leaves lent bytes as it found them.
 
@@ -13,6 +13,7 @@ mod answers;
 pub mod capture;
 mod dots;
 mod lines;
+mod oscillator;
 mod plan;
 mod record;
 mod session;
@@ -23,6 +24,7 @@ pub use capture::{capture_of, import, session_text, Importer};
 pub use dots::{line_length, picture, picture_bytes, shape, shown_cell};
 pub use dots::{Size, FONT, SHAPE_ROWS};
 pub use lines::{letter, read_line, write_line, Line, LINE_BYTES};
+pub use oscillator::{time_at, FREQUENCIES, NEWER_KHZ, USUAL_KHZ};
 pub use plan::{little_endian, transfer_bytes, transfers_of};
 pub use plan::{plan, Wish, PLAN_BYTES, TRANSFER_BYTES};
 pub use record::{address, is_sound, place, record_after_reset, reset, Counter, Half, Record};

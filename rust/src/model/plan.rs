@@ -2,9 +2,9 @@
 
 use super::record::{address, place};
 use super::transfer::time_of;
-use super::{line_length, Counter, Transfer, DISPLAY_CELLS, MEMORY, PATTERN_CELLS};
-use super::{Answer, DONE, NOT_A_WISH, TOO_SHORT, WRONG_LENGTH};
-use super::{DATA_WRITE, INSTRUCTION_WRITE, SHORT_TIME};
+use super::{line_length, time_at, Counter, Transfer, DISPLAY_CELLS, MEMORY, PATTERN_CELLS};
+use super::{Answer, DONE, FREQUENCIES, NOT_A_WISH, TOO_SHORT, WRONG_LENGTH};
+use super::{DATA_WRITE, INSTRUCTION_WRITE, SHORT_TIME, USUAL_KHZ};
 
 /// "the buffer must have 2,808 bytes".
 pub const PLAN_BYTES: usize = 2_808;
@@ -30,9 +30,9 @@ pub fn little_endian(bytes: &[u8]) -> u32 {
 }
 
 /// "A wish: N, F, D, C, B, I/D, S; shift (below L); cursor display cell 0 to 79";
-/// the marks and values come beside it. The default has every bit 0, no shift and the
-/// cursor on cell 0.
-#[derive(Clone, Copy, Debug, Default, PartialEq, Eq)]
+/// the marks and values come beside it. Document 02, d: "Let the record and the wish carry a
+/// frequency".
+#[derive(Clone, Copy, Debug, PartialEq, Eq)]
 pub struct Wish {
     pub n: bool,
     pub f: bool,
@@ -43,14 +43,35 @@ pub struct Wish {
     pub s: bool,
     pub shift: u8,
     pub cursor: u8,
+    /// In kHz.
+    pub frequency: u16,
+}
+
+/// Every bit 0, no shift, the cursor on cell 0, and the usual frequency.
+impl Default for Wish {
+    fn default() -> Wish {
+        Wish {
+            n: false,
+            f: false,
+            d: false,
+            c: false,
+            b: false,
+            id: false,
+            s: false,
+            shift: 0,
+            cursor: 0,
+            frequency: USUAL_KHZ,
+        }
+    }
 }
 
 /// "N=F=1, a shift or cursor out of range, or a mark above 1 is not a wish, and
-/// nothing else is not."
+/// nothing else is not." Document 02, d: "a wish outside it is 13", the frequency's range.
 fn is_wish(wish: &Wish, marks: &[u8]) -> bool {
     !(wish.n && wish.f)
         && wish.shift < line_length(wish.n)
         && wish.cursor < DISPLAY_CELLS
+        && FREQUENCIES.contains(&wish.frequency)
         && marks.iter().all(|&mark| mark <= 1)
 }
 
@@ -59,6 +80,8 @@ struct Records {
     bytes: Vec<u8>,
     /// The time of the previous instruction, which the next first half waits for.
     pending: u32,
+    /// That of the wish: "The plan's waits follow".
+    frequency: u16,
 }
 
 impl Records {
@@ -67,11 +90,12 @@ impl Records {
     }
 
     /// "First halves wait for the previous instruction's time (100 after item 1),
-    /// second halves 1."
+    /// second halves 1." The time is that at 250 kHz. Reading 29: neither the 100 nor the 1
+    /// follows the frequency.
     fn halves(&mut self, kind: u8, byte: u8, time: u32) {
         self.single(kind, byte & 0xF0, self.pending);
         self.single(kind, byte << 4, 1);
-        self.pending = time;
+        self.pending = time_at(self.frequency, time);
     }
 
     fn instruction(&mut self, byte: u8) {
@@ -116,6 +140,7 @@ pub fn plan(wish: &Wish, marks: &[u8], values: &[u8], out: &mut [u8]) -> (Answer
     let mut records = Records {
         bytes: Vec::new(),
         pending: 100,
+        frequency: wish.frequency,
     };
     plan_opening(&mut records, wish);
     plan_cells(&mut records, wish, marks, values);
@@ -129,7 +154,7 @@ pub fn plan(wish: &Wish, marks: &[u8], values: &[u8], out: &mut [u8]) -> (Answer
 
 fn plan_opening(records: &mut Records, wish: &Wish) {
     // "1. Instruction bytes 30h, 30h, 30h, 20h, single transfers, waits 15,000,
-    // 4,100, 100, 100."
+    // 4,100, 100, 100." Document 02, d: "the four opening waits and the reset time stay."
     records.single(INSTRUCTION_WRITE, 0x30, 15_000);
     records.single(INSTRUCTION_WRITE, 0x30, 4_100);
     records.single(INSTRUCTION_WRITE, 0x30, 100);

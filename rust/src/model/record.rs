@@ -1,6 +1,7 @@
 //! Document 01, "The controller's record and memory".
 
-use super::{Answer, DONE, WRONG_LENGTH};
+use super::oscillator::frequency_after_reset;
+use super::{Answer, DONE, FREQUENCIES, WRONG_LENGTH};
 
 /// "Memory is lent, 144 bytes: display cells 0 to 79, then pattern cells 0 to 63."
 pub const MEMORY: usize = 144;
@@ -31,7 +32,7 @@ pub enum Half {
 
 /// "The record holds: width (8 or 4), N, F, D, C, B, I/D, S, and shift 0 to 79; the
 /// counter; the data register, one byte, fresh or stale; busy time left, 0 to 10,000; the
-/// half transfer waiting".
+/// half transfer waiting". Document 02, d: "Let the record and the wish carry a frequency".
 #[derive(Clone, Copy, Debug, PartialEq, Eq)]
 pub struct Record {
     pub width: u8,
@@ -48,6 +49,8 @@ pub struct Record {
     pub fresh: bool,
     pub half: Half,
     pub busy: u32,
+    /// In kHz.
+    pub frequency: u16,
 }
 
 /// "A record that breaks any of this is unsound."
@@ -69,12 +72,15 @@ pub fn is_sound(rec: &Record) -> bool {
         Half::StatusRead(_) => rec.width == 4,
         Half::DataRead(_) => rec.width == 4 && rec.busy == 0,
     };
-    width && shift && counter && busy && half
+    // Document 02, d: "a record outside the range is 1".
+    let frequency = FREQUENCIES.contains(&rec.frequency);
+    width && shift && counter && busy && half && frequency
 }
 
 /// "width 8, N=F=D=C=B=S=0, I/D=1, shift 0, counter display cell 0, register 00h
-/// stale, no half, busy 10,000."
-pub fn record_after_reset() -> Record {
+/// stale, no half, busy 10,000." The frequency is made of the one that was found; "the four
+/// opening waits and the reset time stay", so that busy does not follow it.
+pub fn record_after_reset(found: u16) -> Record {
     Record {
         width: 8,
         n: false,
@@ -90,18 +96,19 @@ pub fn record_after_reset() -> Record {
         fresh: false,
         half: Half::None,
         busy: 10_000,
+        frequency: frequency_after_reset(found),
     }
 }
 
 /// "Reset: display cells 20h, pattern cells untouched", and the record above.
 /// "Reset: 2"; "a refused reset returns the record it was given". Reading 8: the
-/// record is not looked at.
+/// record is not looked at, but for its frequency.
 pub fn reset(rec: Record, mem: &mut [u8]) -> (Answer, Record) {
     if mem.len() != MEMORY {
         return (WRONG_LENGTH, rec);
     }
     blank_display(mem);
-    (DONE, record_after_reset())
+    (DONE, record_after_reset(rec.frequency))
 }
 
 pub(super) fn blank_display(mem: &mut [u8]) {

@@ -1,7 +1,7 @@
 //! Document 01, "Session lines": the session program.
 
 use super::{is_refusal, read_line, record_after_reset, reset, transfer};
-use super::{Answer, Line, Record, DONE, MEMORY};
+use super::{Answer, Line, Record, DONE, MEMORY, USUAL_KHZ};
 
 /// "reads standard input up to 65,536 bytes".
 pub const SESSION_BYTES: usize = 65_536;
@@ -15,13 +15,15 @@ pub type Reader = fn(&[u8]) -> (Answer, Line);
 /// A function with the shape of `transfer`.
 pub type Step = fn(Record, &mut [u8], u8, u8, u32) -> (Answer, u8, Record);
 
-/// The whole report of the session program on an input.
+/// The whole report of the session program on an input. It runs at 250 kHz where nothing else
+/// is asked for.
 pub fn session(text: &[u8]) -> Vec<u8> {
     // "longer: the one line `too long`"
     if text.len() > SESSION_BYTES {
         return TOO_LONG.to_vec();
     }
-    play(text, read_line, transfer).report.into_bytes()
+    let played = play(text, USUAL_KHZ, read_line, transfer);
+    played.report.into_bytes()
 }
 
 /// What a program tells on standard error of a text that is too long.
@@ -57,9 +59,9 @@ pub struct Played {
 
 impl Played {
     /// "starts from reset with pattern cells 00h", "prints the header".
-    fn start() -> Played {
+    fn start(frequency: u16) -> Played {
         let mut mem = [0x00; MEMORY];
-        let (_, rec) = reset(record_after_reset(), &mut mem);
+        let (_, rec) = reset(record_after_reset(frequency), &mut mem);
         Played {
             rec,
             mem,
@@ -89,14 +91,14 @@ impl Played {
     }
 }
 
-/// Plays a text of any length, with a reader and a transfer of the caller's.
-pub fn play(text: &[u8], read: Reader, step: Step) -> Played {
-    play_until(text, usize::MAX, read, step)
+/// Plays a text of any length at a frequency, with a reader and a transfer of the caller's.
+pub fn play(text: &[u8], frequency: u16, read: Reader, step: Step) -> Played {
+    play_until(text, usize::MAX, frequency, read, step)
 }
 
 /// The same of at most so many transfers: what is after them is not looked at.
-pub fn play_until(text: &[u8], until: usize, read: Reader, step: Step) -> Played {
-    let mut played = Played::start();
+pub fn play_until(text: &[u8], until: usize, frequency: u16, read: Reader, step: Step) -> Played {
+    let mut played = Played::start(frequency);
     let mut rest = text;
     let mut number = 1;
     while !rest.is_empty() && number <= until {

@@ -1,7 +1,7 @@
 //! Document 01, "One transfer".
 
 use super::record::{address, blank_display, display_cell, place, step, step_counter};
-use super::{is_sound, Answer, Counter, Half, Record, DISPLAY_CELLS, MEMORY};
+use super::{is_sound, time_at, Answer, Counter, Half, Record, DISPLAY_CELLS, MEMORY};
 use super::{BUSY, CROSSED, DONE, FIRST_HALF, NO_CELL, STALE, UNSOUND, WRONG_KIND, WRONG_LENGTH};
 
 /// "A transfer is a kind (0 instruction write, 1 data write, 2 status read,
@@ -17,11 +17,12 @@ pub const KINDS: [u8; 4] = [INSTRUCTION_WRITE, DATA_WRITE, STATUS_READ, DATA_REA
 pub type Transfer = (u8, u8, u32);
 
 /// "Clear and Home take 1,640, all other instructions, data writes and data reads
-/// 40".
+/// 40 (document 002, 250 kHz)".
 pub const LONG_TIME: u32 = 1_640;
 pub const SHORT_TIME: u32 = 40;
 
-/// The time of an instruction, "by highest set bit": 01h is Clear, 02h and 03h are Home.
+/// The time of an instruction at 250 kHz, "by highest set bit": 01h is Clear, 02h and 03h
+/// are Home.
 pub(super) fn time_of(instruction: u8) -> u32 {
     match instruction {
         0x01..=0x03 => LONG_TIME,
@@ -182,8 +183,13 @@ fn perform_instruction(rec: &mut Record, mem: &mut [u8], byte: u8) -> Answer {
         },
     }
     // "A completed transfer that takes time sets busy to it."
-    rec.busy = time_of(byte);
+    set_busy(rec, time_of(byte));
     DONE
+}
+
+/// Busy for what is this time at 250 kHz.
+fn set_busy(rec: &mut Record, time: u32) {
+    rec.busy = time_at(rec.frequency, time);
 }
 
 /// "Home: counter cell 0, shift 0, register stale."
@@ -240,7 +246,7 @@ fn perform_data_write(rec: &mut Record, mem: &mut [u8], byte: u8) {
     if let (Counter::Display(_), true) = (rec.counter, rec.s) {
         rec.shift = step(rec.shift, rec.id, DISPLAY_CELLS);
     }
-    rec.busy = SHORT_TIME;
+    set_busy(rec, SHORT_TIME);
 }
 
 /// "Data read: returns the register, moves the counter, loads the register from
@@ -250,7 +256,7 @@ fn perform_data_read(rec: &mut Record, mem: &[u8]) -> Answer {
     let answer = if rec.fresh { DONE } else { STALE };
     rec.counter = step_counter(rec.counter, rec.id);
     load_register(rec, mem);
-    rec.busy = SHORT_TIME;
+    set_busy(rec, SHORT_TIME);
     answer
 }
 

@@ -1,15 +1,16 @@
 //! Random calls: most of them sound, the others damaged in one place.
 
 use super::lines;
+use super::records::{any_frequency, frequency_in_or_out};
 use super::records::{memory, record, sound_record, whole_memory};
 use super::wishes::{marks, wish};
 use super::Chance;
-use crate::bytes::{record_bytes, record_of, RECORD_BYTES};
+use crate::bytes::{record_bytes, record_of, FREQUENCY_AT, RECORD_BYTES};
 use crate::case::{Case, Function};
 use crate::model::{picture_bytes, record_after_reset, Record, Size};
 use crate::model::{DATA_READ, DATA_WRITE, INSTRUCTION_WRITE, STATUS_READ};
 use crate::model::{LINE_BYTES, MEMORY, PLAN_BYTES, TRANSFER_BYTES};
-use crate::model::{LONGEST_BUSY, LONG_TIME, SHORT_TIME};
+use crate::model::{LONGEST_BUSY, LONG_TIME, SHORT_TIME, USUAL_KHZ};
 
 /// A call of any of the functions of a `Case`.
 pub fn any_call(chance: &mut Chance) -> Case {
@@ -99,10 +100,16 @@ pub fn next_transfer(chance: &mut Chance, standing: Vec<Vec<u8>>) -> Case {
     }
 }
 
+/// A reset of any record, its frequency often out of range.
 fn reset(chance: &mut Chance) -> Case {
+    let mut record = record(chance);
+    if record.len() == RECORD_BYTES && chance.percent(50) {
+        let frequency = frequency_in_or_out(chance);
+        record[FREQUENCY_AT].copy_from_slice(&frequency.to_le_bytes());
+    }
     Case {
         function: Function::Reset,
-        buffers: vec![record(chance), memory(chance)],
+        buffers: vec![record, memory(chance)],
         numbers: [0; 3],
     }
 }
@@ -129,7 +136,7 @@ fn picture(chance: &mut Chance) -> Case {
     let lit = chance.pick(&[0, 0, 1, 1, 2, 255]);
     let (record, memory) = (record(chance), memory(chance));
     // What is no record wants as many bytes as one after reset.
-    let found = record_of(&record).unwrap_or_else(record_after_reset);
+    let found = record_of(&record).unwrap_or(record_after_reset(USUAL_KHZ));
     let out = output(chance, picture_bytes(&found, size));
     Case {
         function: Function::Picture,
@@ -215,11 +222,13 @@ pub fn kind_and_byte(chance: &mut Chance, kind: u8, byte: u8) -> [Case; 2] {
     [transfer, line]
 }
 
-/// The call that every sequence of transfers starts with.
+/// The call that every sequence of transfers starts with: any bytes but a frequency in range.
 pub fn reset_of_anything(chance: &mut Chance) -> Case {
+    let mut record = chance.bytes(RECORD_BYTES);
+    record[FREQUENCY_AT].copy_from_slice(&any_frequency(chance).to_le_bytes());
     Case {
         function: Function::Reset,
-        buffers: vec![chance.bytes(RECORD_BYTES), chance.bytes(MEMORY)],
+        buffers: vec![record, chance.bytes(MEMORY)],
         numbers: [0; 3],
     }
 }

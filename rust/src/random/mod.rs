@@ -15,6 +15,6 @@ mod wishes;
 pub use captures::{first_stamp, random_capture, session_to_capture, sound_capture};
 pub use chance::{Chance, SEED};
 pub use damage::every_damage;
-pub use records::{sound_record, whole_memory};
-pub use texts::{random_panel_text, random_text};
+pub use records::{any_frequency, sound_record, whole_memory, FREQUENCY_EDGES};
+pub use texts::{asked_frequency, random_panel_text, random_text};
 pub use wishes::{sound_marks, sound_wish};

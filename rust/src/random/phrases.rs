@@ -2,28 +2,10 @@
 
 use super::lines::{byte_of, damaged_line, line};
 use super::Chance;
+use crate::model::{time_at, LONG_TIME, SHORT_TIME};
 use crate::model::{DATA_READ, DATA_WRITE, INSTRUCTION_WRITE, KINDS, STATUS_READ};
-use crate::model::{LONG_TIME, SHORT_TIME};
 
-const SHORT: u64 = SHORT_TIME as u64;
-const LONG: u64 = LONG_TIME as u64;
 const LONGEST_WAIT: u64 = u32::MAX as u64;
-
-/// Waits at and around the times of instructions and of reset, and at the limits.
-const WAITS: [u64; 12] = [
-    0,
-    1,
-    SHORT - 1,
-    SHORT,
-    SHORT + 1,
-    100,
-    LONG - 1,
-    LONG,
-    LONG + 1,
-    10_000,
-    15_000,
-    LONGEST_WAIT,
-];
 
 /// Addresses at the edges of the lines, with and without a cell.
 const ADDRESSES: [u8; 16] = [
@@ -38,10 +20,13 @@ pub struct Text<'a> {
     pub lines: usize,
     patient: bool,
     four: bool,
+    /// The times of instructions at the frequency that it is for.
+    short: u64,
+    long: u64,
 }
 
 impl Text<'_> {
-    pub fn new(chance: &mut Chance) -> Text<'_> {
+    pub fn new(chance: &mut Chance, frequency: u16) -> Text<'_> {
         let (patient, four) = (chance.percent(70), chance.percent(50));
         Text {
             chance,
@@ -49,25 +34,32 @@ impl Text<'_> {
             lines: 0,
             patient,
             four,
+            short: time_at(frequency, SHORT_TIME).into(),
+            long: time_at(frequency, LONG_TIME).into(),
         }
     }
 
     /// A patient one over eight wires.
-    pub fn patient(chance: &mut Chance) -> Text<'_> {
+    pub fn patient(chance: &mut Chance, frequency: u16) -> Text<'_> {
         Text {
             patient: true,
             four: false,
-            ..Text::new(chance)
+            ..Text::new(chance, frequency)
         }
     }
 
+    /// Waits at and around the times of instructions and of reset, and at the limits.
     fn wait(&mut self) -> u64 {
+        let (short, long) = (self.short, self.long);
         if self.patient && self.chance.percent(90) {
-            let enough = [SHORT, SHORT, SHORT + 1, 100, LONG, LONG + 1, 10_000];
+            let enough = [short, short, short + 1, 100, long, long + 1, 10_000];
             return self.chance.pick(&enough);
         }
+        let waits = [0, 1, 100, 10_000, 15_000, LONGEST_WAIT];
+        let times = [short - 1, short, short + 1, long - 1, long, long + 1];
         match self.chance.below(10) {
-            0..=7 => self.chance.pick(&WAITS),
+            0..=3 => self.chance.pick(&waits),
+            4..=7 => self.chance.pick(&times),
             8 => self.chance.below(12_000),
             _ => self.chance.between(0, LONGEST_WAIT),
         }

@@ -1,15 +1,37 @@
 //! Random records and memories, sound and damaged.
 
 use super::Chance;
-use crate::bytes::{record_bytes, BUSY_AT, RECORD_BYTES, RECORD_ZEROS};
+use crate::bytes::{record_bytes, BUSY_AT, FREQUENCY_AT, RECORD_BYTES, RECORD_ZEROS};
 use crate::model::{record_after_reset, Counter, Half, Record};
+use crate::model::{
+    time_at, FREQUENCIES, LONGEST_BUSY, LONG_TIME, NEWER_KHZ, SHORT_TIME, USUAL_KHZ,
+};
 use crate::model::{DISPLAY_CELLS, MEMORY, PATTERN_CELLS};
-use crate::model::{LONGEST_BUSY, LONG_TIME, SHORT_TIME};
 
 /// A number below the bound, its edges more often than the rest.
 pub(super) fn edge_or_any(chance: &mut Chance, bound: u8) -> u8 {
     let any = chance.below(bound.into()) as u8;
     chance.pick(&[0, 1, bound / 2 - 1, bound / 2, bound - 1, any, any, any])
+}
+
+/// The frequencies that every comparison must meet: the ends of the range and what is just
+/// past them, the named kinds, and the ends of two bytes.
+pub const FREQUENCY_EDGES: [u16; 8] = [0, 189, 190, USUAL_KHZ, NEWER_KHZ, 350, 351, u16::MAX];
+
+/// A frequency in range, its ends and the named kinds more often than the rest.
+pub fn any_frequency(chance: &mut Chance) -> u16 {
+    let (lowest, highest) = FREQUENCIES.into_inner();
+    let any = chance.between(lowest.into(), highest.into()) as u16;
+    chance.pick(&[lowest, highest, USUAL_KHZ, NEWER_KHZ, any, any, any])
+}
+
+/// Any number for a frequency: those above, one with its bytes exchanged, one that is in
+/// range but for a high bit, or any.
+pub(super) fn frequency_in_or_out(chance: &mut Chance) -> u16 {
+    let (sound, any) = (any_frequency(chance), chance.bits() as u16);
+    let edge = chance.pick(&FREQUENCY_EDGES);
+    let high_bit = 1 << chance.between(9, 15);
+    chance.pick(&[edge, edge, edge, sound.swap_bytes(), sound | high_bit, any])
 }
 
 /// Any sound record.
@@ -20,13 +42,18 @@ pub fn sound_record(chance: &mut Chance) -> Record {
     } else {
         Half::None
     };
+    let frequency = any_frequency(chance);
     let may_be_busy = matches!(half, Half::None | Half::StatusRead(_));
-    let busy = if may_be_busy { any_busy(chance) } else { 0 };
+    let busy = if may_be_busy {
+        any_busy(chance, frequency)
+    } else {
+        0
+    };
     let waiting = Record {
         width,
         half,
         busy,
-        ..record_after_reset()
+        ..record_after_reset(frequency)
     };
     Record {
         n: chance.percent(60),
@@ -64,12 +91,13 @@ fn any_counter(chance: &mut Chance) -> Counter {
 }
 
 /// Mostly none, so that much is not refused as busy.
-fn any_busy(chance: &mut Chance) -> u32 {
+fn any_busy(chance: &mut Chance, frequency: u16) -> u32 {
     if chance.percent(60) {
         return 0;
     }
     let any = chance.between(1, LONGEST_BUSY.into()) as u32;
-    let (short, long, whole) = (SHORT_TIME, LONG_TIME, LONGEST_BUSY);
+    let [short, long] = [SHORT_TIME, LONG_TIME].map(|time| time_at(frequency, time));
+    let whole = LONGEST_BUSY;
     chance.pick(&[
         1,
         short - 1,
@@ -89,7 +117,7 @@ fn any_busy(chance: &mut Chance) -> u32 {
 fn damaged_record(chance: &mut Chance) -> Vec<u8> {
     let mut bytes = record_bytes(&sound_record(chance)).to_vec();
     let any = chance.byte();
-    match chance.below(12) {
+    match chance.below(14) {
         0 => bytes[0] = any,
         1 => bytes[chance.pick(&[1, 2, 3, 4, 5, 6, 7, 12])] = chance.pick(&[2, 3, 0x80, 0xFF]),
         2 => bytes[8] = chance.pick(&[80, 81, 0xFF, any]),
@@ -104,6 +132,10 @@ fn damaged_record(chance: &mut Chance) -> Vec<u8> {
             bytes[BUSY_AT].copy_from_slice(&busy.to_le_bytes());
         }
         10 => bytes = chance.bytes(RECORD_BYTES),
+        11..=12 => {
+            let frequency = frequency_in_or_out(chance);
+            bytes[FREQUENCY_AT].copy_from_slice(&frequency.to_le_bytes());
+        }
         _ => bytes.resize(chance.below(31) as usize, 0),
     }
     bytes

@@ -1,32 +1,39 @@
 //! Random session texts.
 
 use super::phrases::Text;
+use super::records::any_frequency;
 use super::Chance;
 use crate::model::SESSION_BYTES;
 
 /// The numbers of the panels' generators lie past those of the texts'.
 const PANELS: u64 = 1 << 40;
 
-/// Text number k of a seed.
-pub fn random_text(seed: u64, number: u64) -> Vec<u8> {
+/// The frequency that a program is asked for: none, or one in range.
+pub fn asked_frequency(chance: &mut Chance) -> Option<u16> {
+    let frequency = any_frequency(chance);
+    chance.percent(60).then_some(frequency)
+}
+
+/// Text number k of a seed, whose waits are around the times at a frequency.
+pub fn random_text(seed: u64, number: u64, frequency: u16) -> Vec<u8> {
     let mut chance = Chance::new(seed, number);
     match chance.below(100) {
         0..=1 => noise(&mut chance),
-        2 => large_text(&mut chance),
-        _ => text_of_lines(&mut chance),
+        2 => large_text(&mut chance, frequency),
+        _ => text_of_lines(&mut chance, frequency),
     }
 }
 
 /// Text number k of a seed for a panel that is to be seen: one that turns the display on
 /// and writes to it, and then the text above; now and then that text alone.
-pub fn random_panel_text(seed: u64, number: u64) -> Vec<u8> {
-    let rest = random_text(seed, number);
+pub fn random_panel_text(seed: u64, number: u64, frequency: u16) -> Vec<u8> {
+    let rest = random_text(seed, number, frequency);
     let mut chance = Chance::new(seed, PANELS + number);
     // A text near the limit stays as it is, so that the limit is met.
     if rest.len() > SESSION_BYTES / 2 || chance.percent(15) {
         return rest;
     }
-    let mut text = Text::patient(&mut chance);
+    let mut text = Text::patient(&mut chance, frequency);
     text.panel();
     [text.bytes, rest].concat()
 }
@@ -43,7 +50,7 @@ fn noise(chance: &mut Chance) -> Vec<u8> {
 }
 
 /// Good lines close to, at, or over 65,536 bytes.
-fn large_text(chance: &mut Chance) -> Vec<u8> {
+fn large_text(chance: &mut Chance, frequency: u16) -> Vec<u8> {
     let length = match chance.below(8) {
         0 => 65_535,
         1 | 2 => 65_536,
@@ -53,7 +60,7 @@ fn large_text(chance: &mut Chance) -> Vec<u8> {
         6 => chance.between(65_536, 70_000),
         _ => chance.between(70_000, 300_000),
     } as usize;
-    let mut text = Text::new(chance);
+    let mut text = Text::new(chance, frequency);
     text.opening();
     text.fill_to(length);
     text.bytes
@@ -61,12 +68,12 @@ fn large_text(chance: &mut Chance) -> Vec<u8> {
 
 /// From 0 to some 400 lines, short texts more often than long ones. Something bad stands
 /// in one text of three, more often towards its end.
-fn text_of_lines(chance: &mut Chance) -> Vec<u8> {
+fn text_of_lines(chance: &mut Chance, frequency: u16) -> Vec<u8> {
     let most = chance.pick(&[4, 20, 60, 150, 400]);
     let lines = chance.between(0, most);
     let bad_after = chance.between(0, lines).max(chance.between(0, lines)) as usize;
     let mut bad = chance.percent(33);
-    let mut text = Text::new(chance);
+    let mut text = Text::new(chance, frequency);
     if lines > 0 {
         text.opening();
     }

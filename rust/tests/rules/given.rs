@@ -9,9 +9,15 @@ pub struct Bench {
 }
 
 impl Bench {
+    /// "Document 01's cases read 250."
     pub fn after_reset() -> Bench {
+        Bench::fitted(USUAL_KHZ)
+    }
+
+    /// After reset, with an oscillator of this frequency.
+    pub fn fitted(frequency: u16) -> Bench {
         let mut mem = [0x00; MEMORY];
-        let (answer, rec) = reset(record_after_reset(), &mut mem);
+        let (answer, rec) = reset(record_after_reset(frequency), &mut mem);
         assert_eq!(answer, DONE);
         Bench { rec, mem }
     }
@@ -44,7 +50,7 @@ impl Bench {
 pub fn ready() -> (Record, [u8; MEMORY]) {
     let rec = Record {
         busy: 0,
-        ..record_after_reset()
+        ..record_after_reset(USUAL_KHZ)
     };
     let mut mem = [0; MEMORY];
     for (cell, byte) in mem.iter_mut().enumerate() {
@@ -61,6 +67,7 @@ pub fn unsound_records() -> Vec<Record> {
 fn unsound_fields() -> Vec<Record> {
     let (rec, _) = ready();
     let on = |counter| Record { counter, ..rec };
+    let tuned = |frequency| Record { frequency, ..rec };
     vec![
         Record { width: 0, ..rec },
         Record { width: 5, ..rec },
@@ -71,6 +78,10 @@ fn unsound_fields() -> Vec<Record> {
             busy: 10_001,
             ..rec
         },
+        tuned(0),
+        tuned(189),
+        tuned(351),
+        tuned(u16::MAX),
     ]
 }
 

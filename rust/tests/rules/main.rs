@@ -1,5 +1,5 @@
-//! The model keeps the rules of document 01, a file for each chapter, or a part of one, and
-//! request c of document 02, `fields` and `damage`.
+//! The model keeps the rules of document 01, a file for each chapter, or a part of one, and of
+//! document 02 request c, `fields` and `damage`, and request d, `oscillator`.
 
 mod bench_cases;
 mod damage;
@@ -10,6 +10,7 @@ mod given;
 mod halves;
 mod instructions;
 mod lines;
+mod oscillator;
 mod plan;
 mod record;
 mod transfer;

@@ -6,8 +6,9 @@ use yaropesk_model::model::*;
 use crate::given::{plain_wish, Bench};
 
 /// What is refused of the wish alone.
-fn not_wishes() -> [Wish; 4] {
+fn not_wishes() -> [Wish; 8] {
     let wish = Wish::default();
+    let tuned = |frequency| Wish { frequency, ..wish };
     [
         Wish {
             n: true,
@@ -21,6 +22,10 @@ fn not_wishes() -> [Wish; 4] {
             ..wish
         },
         Wish { cursor: 80, ..wish },
+        tuned(0),
+        tuned(189),
+        tuned(351),
+        tuned(u16::MAX),
     ]
 }
 
@@ -72,7 +77,7 @@ fn play(wish: &Wish, marks: &[u8; MEMORY], values: &[u8; MEMORY]) -> usize {
     let (answer, count) = plan(wish, marks, values, &mut out);
     assert_eq!(answer, DONE);
 
-    let mut bench = Bench::after_reset();
+    let mut bench = Bench::fitted(wish.frequency);
     for (cell, byte) in bench.mem.iter_mut().enumerate().skip(80) {
         *byte = cell as u8;
     }
@@ -91,7 +96,8 @@ fn play(wish: &Wish, marks: &[u8; MEMORY], values: &[u8; MEMORY]) -> usize {
         let wished = [before, *values][usize::from(marks[cell])][cell];
         assert_eq!(bench.mem[cell], wished, "cell {cell}");
     }
-    assert_eq!(bench.rec, wished_record(wish, &bench.mem));
+    let wished = wished_record(wish, wish.frequency, &bench.mem);
+    assert_eq!(bench.rec, wished);
     count
 }
 
@@ -116,6 +122,7 @@ fn plans_lead_to_the_wish() {
         wish.s = step % 4 == 2;
         wish.shift = step as u8 * 3;
         wish.cursor = 79 - step as u8 * 6;
+        wish.frequency = [190, 250, 270, 350, 191, 333][step % 6];
         play(&wish, &marks, &values);
     }
 }

@@ -10,6 +10,7 @@ fn records_at_the_ends_of_their_ranges_are_sound() {
     let four = Record { width: 4, ..rec };
     let on = |counter| Record { counter, ..rec };
     let waiting = |half, busy| Record { half, busy, ..four };
+    let tuned = |frequency| Record { frequency, ..rec };
     for sound in [
         rec,
         four,
@@ -24,6 +25,8 @@ fn records_at_the_ends_of_their_ranges_are_sound() {
         waiting(Half::DataWrite(0x0F), 0),
         waiting(Half::DataRead(0xFF), 0),
         waiting(Half::StatusRead(0xFF), 10_000),
+        tuned(190),
+        tuned(350),
     ] {
         assert!(is_sound(&sound), "{sound:?}");
     }
@@ -40,7 +43,8 @@ fn records_out_of_range_are_unsound() {
 fn reset_refuses_only_by_length() {
     for unsound in unsound_records() {
         let mut mem = [0x77; MEMORY];
-        assert_eq!(reset(unsound, &mut mem), (DONE, record_after_reset()));
+        let new = record_after_reset(USUAL_KHZ);
+        assert_eq!(reset(unsound, &mut mem), (DONE, new));
         assert_eq!(mem[..80], [0x20; 80]);
         assert_eq!(mem[80..], [0x77; 64]);
         for length in [0, 143, 145] {
