@@ -43,10 +43,11 @@ fn cursor_forgotten(wish: &Wish, marks: &[u8], values: &[u8], out: &mut [u8]) ->
 
 #[test]
 fn planners_that_break_it_are_found_out() {
-    let planners: [(Planner, &str); 4] = [
+    let planners: [(Planner, &str); 5] = [
         (wrong::plan_clears, "cell "),
         (wrong::first_mark_alone, "cell "),
         (hurried, "refused as busy"),
+        (wrong::plan_at_250, "refused as busy"),
         (cursor_forgotten, "the record is not as wished"),
     ];
     for (plan, expected) in planners {

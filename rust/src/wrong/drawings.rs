@@ -2,7 +2,7 @@
 
 use crate::drawing::{self, Blocker, Dot, Drawing, Grid, Gridder, Inker, Pointer};
 use crate::drawing::{Speller, Teller, Watcher, DRAWING};
-use crate::model::{self, line_length, Counter, Half, Played, Record, Size};
+use crate::model::{self, line_length, Counter, Half, Played, Record, Size, USUAL_KHZ};
 use crate::wrong::{each, of_calls};
 
 /// Each character's dots run from right to left.
@@ -137,6 +137,14 @@ fn settings_exchanged(rec: &Record) -> String {
     })
 }
 
+/// 250 kHz are told of every panel.
+fn frequency_not_told(rec: &Record) -> String {
+    drawing::state(&Record {
+        frequency: USUAL_KHZ,
+        ..*rec
+    })
+}
+
 /// Busy is told without the places of its missing digits.
 fn busy_not_placed(rec: &Record) -> String {
     let (place, number) = (format!("{:>5}", rec.busy), rec.busy.to_string());
@@ -172,16 +180,22 @@ const WRONG_MARKS: [(&str, Watcher); 3] = [
     ("second-line-shown", second_line_shown),
 ];
 
-const WRONG_STATES: [(&str, Teller); 5] = [
+const WRONG_STATES: [(&str, Teller); 6] = [
     ("address-without-n", address_without_n),
     ("settings-exchanged", settings_exchanged),
     ("shift-in-line", shift_in_line),
     ("half-of-a-half", half_of_a_half),
     ("busy-not-placed", busy_not_placed),
+    ("frequency-not-told", frequency_not_told),
 ];
 
-/// Those of the wrong models that no report shows.
-const WRONG_MODELS: [&str; 3] = ["read-shifts", "clear-drops-s", "second-line-drawn"];
+/// Those of the wrong models that no report shows, and one that alters what is told.
+const WRONG_MODELS: [&str; 4] = [
+    "read-shifts",
+    "clear-drops-s",
+    "second-line-drawn",
+    "times-at-250",
+];
 
 /// All of them, with their names.
 pub fn all() -> Vec<(&'static str, Drawing)> {

@@ -1,15 +1,16 @@
-//! Deliberately wrong models, a file for each chapter, and wrong drawings: a comparison
-//! that misses one of them is worth nothing.
+//! Deliberately wrong models, a file for each chapter or request, and wrong drawings: a
+//! comparison that misses one of them is worth nothing.
 
 mod capture;
 mod dots;
 pub mod drawings;
 mod lines;
+mod oscillator;
 mod plan;
 mod record;
 mod transfer;
 
-use crate::calls::{Model, MODEL};
+use crate::calls::{Model, Planner, RecordReader, Resetter, MODEL};
 use crate::model::{Reader, Step};
 use capture::WRONG_IMPORTERS;
 use dots::WRONG_PAINTERS;
@@ -18,6 +19,7 @@ use plan::WRONG_PLANNERS;
 use record::{WRONG_RECORDS, WRONG_RESETS};
 use transfer::{UNSEEN_STEPS, WRONG_STEPS};
 
+pub use oscillator::plan_at_250;
 pub use plan::{first_mark_alone, plan_clears};
 
 /// A wrong function in its place, with its name.
@@ -61,16 +63,43 @@ pub fn of_calls() -> Vec<Named> {
         steps(&WRONG_STEPS),
         steps(&UNSEEN_STEPS),
         of_lines(),
-        each(&WRONG_RECORDS, |record_of| Model { record_of, ..MODEL }),
-        each(&WRONG_RESETS, |reset| Model { reset, ..MODEL }),
+        records(&WRONG_RECORDS),
+        resets(&WRONG_RESETS),
         each(&WRONG_PAINTERS, |picture| Model { picture, ..MODEL }),
-        each(&WRONG_PLANNERS, |plan| Model { plan, ..MODEL }),
+        planners(&WRONG_PLANNERS),
+        of_frequencies(),
         each(&WRONG_WRITERS, |write_line| Model {
             write_line,
             ..MODEL
         }),
     ]
     .concat()
+}
+
+/// The wrong models of request d that only calls find out.
+fn of_frequencies() -> Vec<Named> {
+    [
+        records(&oscillator::WRONG_RECORDS),
+        each(&oscillator::WRONG_WISHES, |wish_of| Model {
+            wish_of,
+            ..MODEL
+        }),
+        resets(&oscillator::WRONG_RESETS),
+        planners(&oscillator::WRONG_PLANNERS),
+    ]
+    .concat()
+}
+
+fn records(wrong: &[(&'static str, RecordReader)]) -> Vec<Named> {
+    each(wrong, |record_of| Model { record_of, ..MODEL })
+}
+
+fn resets(wrong: &[(&'static str, Resetter)]) -> Vec<Named> {
+    each(wrong, |reset| Model { reset, ..MODEL })
+}
+
+fn planners(wrong: &[(&'static str, Planner)]) -> Vec<Named> {
+    each(wrong, |plan| Model { plan, ..MODEL })
 }
 
 /// The wrong models that import captures.

@@ -1,6 +1,7 @@
 //! Wrong readings of document 01's chapter "One transfer".
 
-use crate::model::{self, Answer, Counter, Half, Record, Step};
+use crate::model::{self, time_at, Answer, Counter, Half, Record, Step};
+use crate::model::{LONG_TIME, SHORT_TIME, USUAL_KHZ};
 
 /// A transfer that the model has made: how it was sent, and what it came to.
 struct Made {
@@ -14,23 +15,46 @@ struct Made {
 }
 
 impl Made {
+    /// The kind and the byte of what this transfer has completed, if it has.
+    fn completed(&self) -> Option<(u8, u8)> {
+        let done = matches!(self.answer, model::DONE | model::STALE | model::CROSSED);
+        let low = self.byte >> 4;
+        let whole = match self.before.half {
+            Half::None => (self.kind, self.byte),
+            Half::InstructionWrite(high) => (model::INSTRUCTION_WRITE, high << 4 | low),
+            Half::DataWrite(high) => (model::DATA_WRITE, high << 4 | low),
+            Half::StatusRead(_) => (model::STATUS_READ, 0x00),
+            Half::DataRead(_) => (model::DATA_READ, 0x00),
+        };
+        done.then_some(whole)
+    }
+
     /// The byte of the instruction that this transfer has completed, if it has one.
     fn instruction(&self) -> Option<u8> {
-        let done = self.answer == model::DONE || self.answer == model::CROSSED;
-        match self.before.half {
-            Half::InstructionWrite(high) if done => Some((high << 4) | (self.byte >> 4)),
-            Half::None if done && self.kind == model::INSTRUCTION_WRITE => Some(self.byte),
+        match self.completed() {
+            Some((model::INSTRUCTION_WRITE, byte)) => Some(byte),
             _ => None,
         }
     }
 
     /// Has a data read been completed by this transfer?
     fn is_read(&self) -> bool {
-        let done = matches!(self.answer, model::DONE | model::STALE | model::CROSSED);
-        match self.before.half {
-            Half::DataRead(_) => done,
-            Half::None => done && self.kind == model::DATA_READ,
-            _ => false,
+        matches!(self.completed(), Some((model::DATA_READ, _)))
+    }
+
+    /// The time at 250 kHz of what this transfer has completed, if that takes time.
+    fn time(&self) -> Option<u32> {
+        match self.completed()? {
+            (model::INSTRUCTION_WRITE, 0x01..=0x03) => Some(LONG_TIME),
+            (model::STATUS_READ, _) => None,
+            _ => Some(SHORT_TIME),
+        }
+    }
+
+    /// Another time than the one that is due, made of the frequency and the time at 250 kHz.
+    fn retime(&mut self, other: impl Fn(u32, u32) -> u32) {
+        if let Some(time) = self.time() {
+            self.new.busy = other(self.new.frequency.into(), time);
         }
     }
 }
@@ -106,10 +130,49 @@ fn nothing_takes_nothing(made: &mut Made) {
     }
 }
 
-/// An address without a cell takes its 40.
+/// An address without a cell takes its time.
 fn no_cell_takes_time(made: &mut Made) {
     if made.answer == model::NO_CELL {
-        made.new.busy = model::SHORT_TIME;
+        made.new.busy = time_at(made.new.frequency, SHORT_TIME);
+    }
+}
+
+/// Times are rounded down.
+fn times_rounded_down(made: &mut Made) {
+    made.retime(|khz, time| time * 250 / khz);
+}
+
+/// Times are rounded to the nearest.
+fn times_to_nearest(made: &mut Made) {
+    made.retime(|khz, time| (time * 250 + khz / 2) / khz);
+}
+
+/// Times are one more than rounded down, also where nothing is left to round.
+fn times_always_more(made: &mut Made) {
+    made.retime(|khz, time| time * 250 / khz + 1);
+}
+
+/// Times are those at 250 kHz for all.
+fn times_at_250(made: &mut Made) {
+    made.retime(|_, time| time);
+}
+
+/// Clear and Home take their time at 250 kHz, the others follow.
+fn home_at_250(made: &mut Made) {
+    if made.time() == Some(LONG_TIME) {
+        made.new.busy = LONG_TIME;
+    }
+}
+
+/// Times rise with the frequency.
+fn times_rise(made: &mut Made) {
+    made.retime(|khz, time| (time * khz).div_ceil(250));
+}
+
+/// What has been completed leaves 250 kHz in the record.
+fn frequency_lost(made: &mut Made) {
+    if made.completed().is_some() {
+        made.new.frequency = USUAL_KHZ;
     }
 }
 
@@ -175,7 +238,7 @@ fn busy_one_off(
     model::transfer(before, memory, kind, byte, wait)
 }
 
-pub const WRONG_STEPS: [(&str, Step); 14] = [
+pub const WRONG_STEPS: [(&str, Step); 21] = [
     ("clear-keeps-direction", then!(clear_keeps_direction)),
     ("clear-drops-s", then!(clear_drops_s)),
     ("clear-keeps-fresh", then!(clear_keeps_fresh)),
@@ -190,6 +253,13 @@ pub const WRONG_STEPS: [(&str, Step); 14] = [
     ("pattern-read-stops", then!(pattern_read_stops)),
     ("busy-one-off", busy_one_off),
     ("read-shifts", then!(read_shifts)),
+    ("times-rounded-down", then!(times_rounded_down)),
+    ("times-to-nearest", then!(times_to_nearest)),
+    ("times-always-more", then!(times_always_more)),
+    ("times-at-250", then!(times_at_250)),
+    ("home-at-250", then!(home_at_250)),
+    ("times-rise", then!(times_rise)),
+    ("frequency-lost", then!(frequency_lost)),
 ];
 
 /// No session has a kind above 3.
