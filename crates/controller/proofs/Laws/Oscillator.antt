@@ -1,41 +1,50 @@
 -- Laws of the oscillator: the frequency that is fitted, and the times at it. A time is the least one that reaches far enough, and
 -- all else about it follows from that.
 -- Assumes nothing.
-use mathlib.Core.Bool.{true, false}
-use mathlib.Core.Path.{_≡_, refl, ap}
-use Prim.Native.Nat.{ℕ, _+_, _-_, _*_, _/_, _≤_, _<_}
+use mathlib.Core.Bool.{true}
+use mathlib.Core.Path.{_≡_}
+use Prim.Native.Nat.{ℕ, _+_, _-_, _*_, _≤_, _<_}
 use native.Mathlib.Nat.{div-lt-iff-lt-mul, lt-div-mul-add, mul-le-mul-left, mul-le-mul-right, le-trans, suc-mul}
 use native.Mathlib.Numerals.{add-one}
 use native.Mathlib.Omega.{arith}
 use lib.Dec.{leb}
 use borrow.Author.Tests.{leb-true, le-leb}
 use Rattle.controller.proofs.Laws.Choice.{cond-elim, and-left, and-right}
+use Rattle.controller.proofs.Laws.Rows.{range-fails}
+use Rattle.controller.proofs.Laws.Tests.{fails-false}
 use Rattle.controller.specs.declared.oscillator.Frequency.{Frequency}
 use Rattle.controller.specs.Oscillator.{inRange, fitted, older, roundedUp, timeAt}
+use Rattle.controller.specs.Rows.{OutOfRange}
+use Rattle.controller.specs.Times.{WithinRange}
 
--- the ends of the range
-pub range-ends : (frequency : Frequency) → inRange frequency ≡ true → (190 ≤ frequency .khz) × (frequency .khz ≤ 350)
+-- the test of the range, in plain numbers
+pub range-within : (frequency : Frequency) → inRange frequency ≡ true → WithinRange frequency
 unfolding inRange
-range-ends frequency is =
-    (leb-true 190 (frequency .khz) (and-left _ _ is), leb-true (frequency .khz) 350 (and-right (leb 190 (frequency .khz)) _ is))
+range-within frequency is =
+    record {
+      low = leb-true 190 (frequency .khz) (and-left _ _ is);
+      high = leb-true (frequency .khz) 350 (and-right (leb 190 (frequency .khz)) _ is);
+    }
 
-pub range-of : (frequency : Frequency) → 190 ≤ frequency .khz → frequency .khz ≤ 350 → inRange frequency ≡ true
+pub within-range : (frequency : Frequency) → WithinRange frequency → inRange frequency ≡ true
 unfolding inRange
-range-of frequency low high = simp (le-leb _ _ low, le-leb _ _ high)
+within-range frequency is = simp (le-leb _ _ (is .low), le-leb _ _ (is .high))
 
--- what is fitted is in range
-pub fitted-in : (frequency : Frequency) → inRange frequency ≡ true → fitted frequency ≡ frequency
-unfolding fitted
-fitted-in frequency is = rw is
+pub older-within : WithinRange older
+older-within = record { low = omega arith; high = omega arith }
 
-pub fitted-out : (frequency : Frequency) → inRange frequency ≡ false → fitted frequency ≡ older
+-- what is fitted: a frequency in range, and 250 for one out of it
+pub fitted-in : (frequency : Frequency) → WithinRange frequency → fitted frequency ≡ frequency
 unfolding fitted
-fitted-out frequency is = rw is
+fitted-in frequency is = rw (within-range frequency is)
 
-pub fitted-range : (frequency : Frequency) → inRange (fitted frequency) ≡ true
+pub fitted-out : (frequency : Frequency) → OutOfRange frequency → fitted frequency ≡ older
 unfolding fitted
-fitted-range frequency =
-    cond-elim (λ (f : Frequency). inRange f ≡ true) (inRange frequency) _ _ (λ is. is) (λ _. range-of older (omega arith) (omega arith))
+fitted-out frequency out = rw (fails-false (inRange frequency) (range-fails frequency) out)
+
+pub fitted-within : (frequency : Frequency) → WithinRange (fitted frequency)
+unfolding fitted
+fitted-within frequency = cond-elim WithinRange (inRange frequency) _ _ (range-within frequency) (λ _. older-within)
 
 -- divided and rounded up, a number is the least that reaches it
 rounded-reaches : (number by : ℕ) → 0 < by → number ≤ roundedUp number by * by
@@ -53,17 +62,17 @@ module _ (time : ℕ) (frequency : Frequency) where
 
   pub time-reaches : time * 250 ≤ timeAt time frequency * khz
   unfolding timeAt
-  time-reaches = rounded-reaches (time * 250) khz (omega (arith, range-ends (fitted frequency) (fitted-range frequency) .0))
+  time-reaches = rounded-reaches (time * 250) khz (omega (arith, fitted-within frequency .low))
 
   pub time-least : (other : ℕ) → time * 250 ≤ other * khz → timeAt time frequency ≤ other
   unfolding timeAt
   time-least other reaches =
-      rounded-least (time * 250) khz other (omega (arith, range-ends (fitted frequency) (fitted-range frequency) .0)) reaches
+      rounded-least (time * 250) khz other (omega (arith, fitted-within frequency .low)) reaches
 
   -- a time that is enough at 190 kHz is enough at every frequency
   pub time-bound : (most : ℕ) → time * 250 ≤ most * 190 → timeAt time frequency ≤ most
   time-bound most enough =
-      time-least most (le-trans enough (mul-le-mul-left most (range-ends (fitted frequency) (fitted-range frequency) .0)))
+      time-least most (le-trans enough (mul-le-mul-left most (fitted-within frequency .low)))
 
 -- a longer time of 250 kHz is no shorter at another frequency
 pub time-grows : (time longer : ℕ) (frequency : Frequency) → time ≤ longer → timeAt time frequency ≤ timeAt longer frequency

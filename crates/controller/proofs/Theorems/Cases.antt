@@ -11,7 +11,7 @@ use lib.Seq.{getD-set-same}
 use borrow.Author.Tests.{eq-eqb}
 use Rattle.controller.proofs.Laws.Cells.{place-below}
 use Rattle.controller.proofs.Laws.Memory.{blanked-length, performed-length}
-use Rattle.controller.proofs.Laws.Oscillator.{fitted-in, range-of}
+use Rattle.controller.proofs.Laws.Oscillator.{fitted-in, older-within}
 use Rattle.controller.proofs.Laws.Taken.{taken-narrow, taken-wide}
 use Rattle.controller.proofs.Theorems.Sound.{reset-sound, transfer-keeps-sound}
 use Rattle.controller.proofs.Laws.Record.{sound-counter, waited-over}
@@ -46,12 +46,9 @@ unfolding resetDecided performed whole
 reset-state rec mem long = rw (eq-eqb (length mem) 144 long)
 
 -- where 250 kHz is fitted, reset is as from 250 kHz
-older-fits : inRange older ≡ true
-older-fits = range-of older (omega arith) (omega arith)
-
 reset-at : (frequency : Frequency) → fitted frequency ≡ older → resetRecord frequency ≡ resetRecord older
 unfolding resetRecord
-reset-at frequency is = rw (is, fitted-in older older-fits)
+reset-at frequency is = rw (is, fitted-in older older-within)
 
 pub p1 : P1
 unfolding resetRecord resetTime

@@ -10,9 +10,7 @@ use lib.ListN.{length}
 use borrow.Author.Tests.{eq-eqb}
 use Rattle.controller.proofs.Laws.Choice.{cond-elim}
 use Rattle.controller.proofs.Laws.Completed.{completed-carried}
-use Rattle.controller.proofs.Laws.Oscillator.{fitted-in, fitted-out, range-of, time-least, time-reaches}
-use Rattle.controller.proofs.Laws.Rows.{range-fails}
-use Rattle.controller.proofs.Laws.Tests.{fails-false}
+use Rattle.controller.proofs.Laws.Oscillator.{fitted-in, fitted-out, time-least, time-reaches}
 use Rattle.controller.proofs.Theorems.Rules.{waits-frequency}
 use Rattle.controller.specs.declared.decision.Decision.{Decision}
 use Rattle.controller.specs.declared.execute.Transfer.{Transfer}
@@ -25,25 +23,17 @@ use Rattle.controller.specs.Bus.{badTransfer, decided, mustWait, ordered
 use Rattle.controller.specs.Cells.{onCell}
 use Rattle.controller.specs.Execute.{completed}
 use Rattle.controller.specs.Halves.{accepted, begun, firstHalf, narrow, secondHalf}
-use Rattle.controller.specs.Oscillator.{fitted, inRange, older, timeAt}
+use Rattle.controller.specs.Oscillator.{fitted, inRange, timeAt}
 use Rattle.controller.specs.Record.{resetRecord, sound, waited, withHalf}
-use Rattle.controller.specs.Rows.{OutOfRange}
 use Rattle.controller.specs.Times.{WithinRange, LeastTime, TimeAt250, TimesAt270, TimeFalls, TimeOutside, ResetFrequency, TransferKeepsFrequency, OscillatorRules}
-
--- a frequency in range is fitted, and for one out of range 250
-pub within-fitted : (frequency : Frequency) → WithinRange frequency → fitted frequency ≡ frequency
-within-fitted frequency is = fitted-in frequency (range-of frequency (is .low) (is .high))
-
-pub outside-fitted : (frequency : Frequency) → OutOfRange frequency → fitted frequency ≡ older
-outside-fitted frequency out = fitted-out frequency (fails-false (inRange frequency) (range-fails frequency) out)
 
 module _ (time : ℕ) (frequency : Frequency) (is : WithinRange frequency) where
   -- the laws of a time, in range
   reaches : time * 250 ≤ timeAt time frequency * frequency .khz
-  reaches = subst (λ (f : Frequency). time * 250 ≤ timeAt time frequency * f .khz) (within-fitted frequency is) (time-reaches time frequency)
+  reaches = subst (λ (f : Frequency). time * 250 ≤ timeAt time frequency * f .khz) (fitted-in frequency is) (time-reaches time frequency)
 
   least : (other : ℕ) → time * 250 ≤ other * frequency .khz → timeAt time frequency ≤ other
-  least other enough = time-least time frequency other (subst (λ (f : Frequency). time * 250 ≤ other * f .khz) (sym (within-fitted frequency is)) enough)
+  least other enough = time-least time frequency other (subst (λ (f : Frequency). time * 250 ≤ other * f .khz) (sym (fitted-in frequency is)) enough)
 
 pub least-time : LeastTime
 least-time time frequency is =
@@ -63,14 +53,14 @@ time-falls time slow fast slow-is fast-is rises =
 
 pub time-outside : TimeOutside
 unfolding timeAt
-time-outside time frequency out = rw (outside-fitted frequency out) (omega arith)
+time-outside time frequency out = rw (fitted-out frequency out) (omega arith)
 
 pub reset-frequency : (rec : Record) (mem : List ℕ) → length mem ≡ 144 → ResetFrequency rec mem
 unfolding resetDecided resetRecord whole
 reset-frequency rec mem long =
     record {
-      kept = λ is. rw (eq-eqb (length mem) 144 long) (within-fitted (rec .frequency) is);
-      put = λ out. rw (eq-eqb (length mem) 144 long) (ap (λ (f : Frequency). f .khz) (outside-fitted (rec .frequency) out));
+      kept = λ is. rw (eq-eqb (length mem) 144 long) (fitted-in (rec .frequency) is);
+      put = λ out. rw (eq-eqb (length mem) 144 long) (ap (λ (f : Frequency). f .khz) (fitted-out (rec .frequency) out));
     }
 
 -- a first half leaves the frequency, and a second what it completes

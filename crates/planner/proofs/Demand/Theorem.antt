@@ -10,16 +10,15 @@ use native.Mathlib.Nat.{not-suc-le-zero}
 use native.Mathlib.Omega.{arith}
 use lib.ListN.{length, getD}
 use borrow.Author.Tests.{eq-eqb}
-use Rattle.controller.proofs.Laws.Oscillator.{range-ends}
+use Rattle.controller.proofs.Laws.Oscillator.{range-within}
 use Rattle.controller.proofs.Laws.Record.{sound-frequency}
 use Rattle.controller.proofs.Theorems.Times.{time-falls}
 use Rattle.controller.specs.Cells.{placeOf, byteUnder}
 use Rattle.controller.specs.Decision.{performed}
 use Rattle.controller.specs.Execute.{shortTime, longTime, placed, loaded, changed, executed}
-use Rattle.controller.specs.Oscillator.{inRange, timeAt}
+use Rattle.controller.specs.Oscillator.{timeAt}
 use Rattle.controller.specs.Record.{sound, busyOver, withControl, withEntry}
 use Rattle.controller.specs.Runs.{State, after, ran}
-use Rattle.controller.specs.Times.{WithinRange}
 use Rattle.controller.specs.declared.decision.Decision.{Decision}
 use Rattle.controller.specs.declared.instruction.Instruction.{Instruction}
 use Rattle.controller.specs.declared.oscillator.Frequency.{Frequency}
@@ -135,15 +134,11 @@ spared : (k : Scene) (s : State) → Inv k s → Spared (k .marks) (k .start) (s
 spared k s inv place below no-mark free =
     ⊎-elim (λ first. first) (λ named. absurd (false≢true (sym no-mark ∙ named .0))) (inv .cells place below free)
 
--- a frequency in range, in plain numbers
-within : (frequency : Frequency) → inRange frequency ≡ true → WithinRange frequency
-within frequency is = let ends = range-ends frequency is in record { low = ends .0; high = ends .1 }
-
 pub slower-serves : SlowerServes
 unfolding planOf shortTime longTime
 slower-serves wish marks values start asked slower cut last begun whole =
-    let slow = within (wish .frequency) (wish-frequency wish marks (asked .accepted)) in
-    let fast = within (start .rec .frequency) (sound-frequency (start .rec) (asked .sound)) in
+    let slow = range-within (wish .frequency) (wish-frequency wish marks (asked .accepted)) in
+    let fast = range-within (start .rec .frequency) (sound-frequency (start .rec) (asked .sound)) in
     let falls : (time : ℕ) → timeAt time (start .rec .frequency) ≤ timeAt time (wish .frequency) =
     λ time. time-falls time (wish .frequency) (start .rec .frequency) slow fast slower in
     let k : Scene =
@@ -161,7 +156,7 @@ slower-serves wish marks values start asked slower cut last begun whole =
 
 pub lowest-serves : LowestServes
 lowest-serves wish marks values start asked lowest =
-    let fast = range-ends (start .rec .frequency) (sound-frequency (start .rec) (asked .sound)) .0 in
+    let fast = range-within (start .rec .frequency) (sound-frequency (start .rec) (asked .sound)) in
     slower-serves wish marks values start asked (omega arith)
 
 pub cut-runs : CutRuns

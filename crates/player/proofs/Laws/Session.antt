@@ -21,7 +21,7 @@ use Rattle.controller.specs.Bus.{whole, resetDecided, Performs}
 use Rattle.controller.specs.Decision.{performed, blanked}
 use Rattle.controller.specs.Oscillator.{fitted}
 use Rattle.controller.specs.Record.{sound, resetRecord}
-use Rattle.controller.proofs.Laws.Oscillator.{fitted-in, fitted-range}
+use Rattle.controller.proofs.Laws.Oscillator.{fitted-in, fitted-within}
 use Rattle.controller.proofs.Theorems.Sound.{reset-sound, transfer-keeps-sound}
 use Rattle.lines.specs.Line.{line, linesOf}
 use Rattle.lines.specs.Reading.{lineOf}
@@ -93,7 +93,7 @@ pub reset-starts : (frequency : Frequency) (rec : Record) {told : Outcome} {mem 
     → Performs (resetDecided rec (replicate 144 0)) (replicate 144 0) told mem → record { rec = told .rec; mem = mem } ≡ start frequency
 unfolding resetDecided whole performed blanked resetRecord
 reset-starts frequency rec {told} {mem} is meets =
-    simp (meets .told, meets .memory, ap (λ (r : Record). r .frequency) is, fitted-in (fitted frequency) (fitted-range frequency))
+    simp (meets .told, meets .memory, ap (λ (r : Record). r .frequency) is, fitted-in (fitted frequency) (fitted-within frequency))
 
 pub header-length : length header ≡ 20
 unfolding header

@@ -10,7 +10,8 @@ use Rattle.controller.specs.declared.sent.Sent.{Sent}
 use Rattle.controller.specs.Record.{resetRecord, sound}
 use Rattle.controller.specs.Runs.{State, decidedOf, after, ran}
 use Rattle.controller.proofs.Laws.Memory.{performed-length}
-use Rattle.controller.proofs.Theorems.Times.{transfer-keeps-frequency, within-fitted}
+use Rattle.controller.proofs.Laws.Oscillator.{fitted-in}
+use Rattle.controller.proofs.Theorems.Times.{transfer-keeps-frequency}
 use Rattle.controller.specs.Answers.{isDone}
 use Rattle.lines.specs.Reading.{lineOf}
 use Rattle.lines.specs.Session.{sentOf, readUpTo}
@@ -54,7 +55,7 @@ ran-keeps state (t ∷ ts) =
 
 pub frequency-stays : FrequencyStays
 unfolding standing leaving resetRecord
-frequency-stays frequency text most is = ran-keeps (start frequency) (readUpTo most text .sent) ∙ within-fitted frequency is
+frequency-stays frequency text most is = ran-keeps (start frequency) (readUpTo most text .sent) ∙ fitted-in frequency is
 
 pub one-standing : OneStanding
 one-standing frequency text most a b is also = is ∙ sym also

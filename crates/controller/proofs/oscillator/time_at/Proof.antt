@@ -3,7 +3,7 @@
 use mathlib.Core.Path.{ap}
 use Prim.Native.Nat.{ℕ, _<_}
 use native.Mathlib.Omega.{arith}
-use Rattle.controller.proofs.Laws.Oscillator.{fitted-range, range-ends}
+use Rattle.controller.proofs.Laws.Oscillator.{fitted-within}
 use Rattle.controller.specs.declared.oscillator.Frequency.{Frequency}
 use Rattle.controller.specs.Oscillator.{fitted, timeAt}
 use borrow.Author.Needs.{needs}
@@ -15,7 +15,7 @@ abbrev khz : Frequency → ℕ
 khz frequency = frequency .khz
 
 some : (frequency : Frequency) → 0 < fitted frequency .khz
-some frequency = omega (arith, range-ends (fitted frequency) (fitted-range frequency) .0)
+some frequency = omega (arith, fitted-within frequency .low)
 
 fit-requires : tie.Need-fit-requires
 fit-requires c κs = search needs
