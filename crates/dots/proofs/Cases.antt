@@ -25,7 +25,7 @@ use Rattle.controller.specs.declared.«record».Half.the-variants.{Empty}
 use Rattle.controller.specs.Cells.{addOfCell, wrapped}
 use Rattle.dots.specs.declared.geometry.Shown.{Shown}
 use Rattle.dots.specs.declared.geometry.Shown.the-variants.{Cell, Undriven}
-use Rattle.dots.specs.declared.geometry.Size.{Size}
+use Rattle.dots.specs.declared.panel.Profile.{Profile}
 use Rattle.dots.specs.Cases.{LinesStart, P5, P7}
 use Rattle.dots.specs.Font.{font}
 use Rattle.dots.specs.Geometry.{cellIn}
@@ -81,17 +81,17 @@ module _ (mem : List ℕ) (cell : ℕ) (display : cell < 80) (within : cell < le
   shown-08 shapes rec lit row (Cell at) = ap (λ (k : ℕ). cond (covered rec lit row at) 0b11111 k) (cell-08 shapes at row)
   shown-08 shapes rec lit row Undriven = refl
 
-  byte-08 : (rec : Record) (lit : Bool) (size : Size) (at : ℕ) → pictureByte font rec (set mem cell 0x08) lit size at ≡ pictureByte font rec mem lit size at
+  byte-08 : (rec : Record) (lit : Bool) (profile : Profile) (at : ℕ) → pictureByte font rec (set mem cell 0x08) lit profile at ≡ pictureByte font rec mem lit profile at
   unfolding pictureByte dotsAt
-  byte-08 rec lit size at = rw (shown-08 font rec lit) refl
+  byte-08 rec lit profile at = rw (shown-08 font rec lit) refl
 
-  output-08 : (rec : Record) (size : Size) (lit : Bool) (out : List ℕ) → output rec (set mem cell 0x08) size lit out ≡ output rec mem size lit out
+  output-08 : (rec : Record) (profile : Profile) (lit : Bool) (out : List ℕ) → output rec (set mem cell 0x08) profile lit out ≡ output rec mem profile lit out
   unfolding output answerFor whole
-  output-08 rec size lit out = rw (length-set, fun-ext (byte-08 rec lit size)) refl
+  output-08 rec profile lit out = rw (length-set, fun-ext (byte-08 rec lit profile)) refl
 
 pub p7 : P7
-p7 = (rows-08, λ rec mem size lit out cell display holds. go rec mem size lit out cell display holds (ltb cell (length mem)) refl)
+p7 = (rows-08, λ rec mem profile lit out cell display holds. go rec mem profile lit out cell display holds (ltb cell (length mem)) refl)
   where
-    go : (rec : Record) (mem : List ℕ) (size : Size) (lit : Bool) (out : List ℕ) (cell : ℕ) → cell < 80 → getD mem cell 0 ≡ 0x00 → (b : Bool) → ltb cell (length mem) ≡ b → output rec (set mem cell 0x08) size lit out ≡ output rec mem size lit out
-    go rec mem size lit out cell display holds true e = output-08 mem cell display (ltb-true _ _ e) holds rec size lit out
-    go rec mem size lit out cell display holds false e = rw (set-out mem cell 0x08 (ltb-false _ _ e)) refl
+    go : (rec : Record) (mem : List ℕ) (profile : Profile) (lit : Bool) (out : List ℕ) (cell : ℕ) → cell < 80 → getD mem cell 0 ≡ 0x00 → (b : Bool) → ltb cell (length mem) ≡ b → output rec (set mem cell 0x08) profile lit out ≡ output rec mem profile lit out
+    go rec mem profile lit out cell display holds true e = output-08 mem cell display (ltb-true _ _ e) holds rec profile lit out
+    go rec mem profile lit out cell display holds false e = rw (set-out mem cell 0x08 (ltb-false _ _ e)) refl

@@ -1,7 +1,10 @@
 pub mod Logic
 pub mod Places
+pub mod Panels
 pub mod Painting
+pub mod Stretches
 pub mod Table
 pub mod Answers
 pub mod Theorems
+pub mod Profiles
 pub mod Cases

@@ -66,6 +66,13 @@ module _ (f : ℕ → ℕ) (start : ℕ) (out : List ℕ) where
       getD-set-other (painted f start count out) (start + count) at (f (start + count)) 0 (λ e. omega arith)
       ∙ painted-past count at (omega arith)
 
+-- Two functions that agree on a stretch paint it alike.
+pub painted-alike : (f g : ℕ → ℕ) (start count : ℕ) (out : List ℕ) → ((i : ℕ) → i < count → f (start + i) ≡ g (start + i)) → painted f start count out ≡ painted g start count out
+unfolding painted
+painted-alike f g start zero out same = refl
+painted-alike f g start (suc count) out same =
+    rw (painted-alike f g start count out (λ i h. same i (omega arith)), same count (omega arith)) refl
+
 -- One more row of a grid of this width, painted from its first place.
 pub painted-row : (f : ℕ → ℕ) (width row : ℕ) (out : List ℕ) → painted f (row * width) width (painted f 0 (row * width) out) ≡ painted f 0 ((row + 1) * width) out
 painted-row f width row out = rw zero-add at (painted-join f 0 out (row * width) width) ∙ ap (λ (n : ℕ). painted f 0 n out) (rw (add-mul, one-mul) refl)

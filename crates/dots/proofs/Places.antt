@@ -11,9 +11,10 @@ use lib.Dec.{ltb}
 use Rattle.controller.specs.declared.«record».Function.{Function}
 use Rattle.controller.specs.declared.«record».Record.{Record}
 use Rattle.dots.specs.declared.geometry.Shown.the-variants.{Cell, Undriven}
-use Rattle.dots.specs.declared.geometry.Size.{Size}
+use Rattle.dots.specs.declared.panel.Profile.{Profile}
 use Rattle.dots.specs.Geometry.{ShownWithin, cellIn, height, tallest}
-use Rattle.dots.specs.Picture.{pictureByte, dotsAt}
+use Rattle.dots.specs.Panel.{sizeOf}
+use Rattle.dots.specs.Picture.{dotsOn, pictureByte}
 
 -- In a grid of rows of this width, place row * width + column stands in that row and that column.
 pub row-of-place : (width row column : ℕ) → column < width → (row * width + column) / width ≡ row
@@ -45,9 +46,16 @@ in-within driven length shift line position some few = go (ltb line driven) refl
     go true e = omega (arith, row-ends length line driven (ltb-true line driven e), mod-lt (position + shift) some)
     go false e = tt
 
--- The dots at a column of row `at` of the glass, counted from its top, are the byte at that place of the output.
-pub dots-are-byte : (shapes : List ℕ) (rec : Record) (mem : List ℕ) (lit : Bool) (size : Size) (at column rows : ℕ) → rows ≡ height (rec .function) → column < size .columns
-    → dotsAt shapes rec mem lit (at / rows) (at % rows) column ≡ pictureByte shapes rec mem lit size (at * size .columns + column)
+-- The dots at a line, a row and a column of the glass are the byte at that place of the output.
+pub dots-are-byte : (shapes : List ℕ) (rec : Record) (mem : List ℕ) (lit : Bool) (profile : Profile) (line row column : ℕ) → row < height (rec .function) → column < sizeOf profile .columns
+    → dotsOn shapes rec mem lit profile line row column ≡ pictureByte shapes rec mem lit profile ((line * height (rec .function) + row) * sizeOf profile .columns + column)
 unfolding pictureByte
-dots-are-byte shapes rec mem lit size at column rows e h =
-    rw (row-of-place (size .columns) at column h, column-of-place (size .columns) at column h, e) refl
+dots-are-byte shapes rec mem lit profile line row column r h =
+    let at = line * height (rec .function) + row in
+    rw (
+      row-of-place (sizeOf profile .columns) at column h,
+      column-of-place (sizeOf profile .columns) at column h,
+      row-of-place (height (rec .function)) line row r,
+      column-of-place (height (rec .function)) line row r,
+    )
+    refl

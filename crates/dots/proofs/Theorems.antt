@@ -1,10 +1,10 @@
 -- The theorems of specs/Theorems.antt, but for those of the table, which stand in Table.antt.
 -- Assumes nothing.
-use mathlib.Core.Bool.{Bool, true, false, cond, not}
+use mathlib.Core.Bool.{Bool, true, false, cond, not, false≢true, true≢false}
 use mathlib.Core.List.{List}
 use mathlib.Core.Path.{_≡_, refl, sym, ap, fun-ext, _∙_}
-use Prim.Native.Nat.{ℕ, _+_, _-_, _*_, _/_, _%_, _≤_, _<_}
-use native.Mathlib.Nat.{add-mul, add-mul-mod-self-right, add-zero, div-add-mod', mod-add-mod, mod-eq-of-lt, mod-lt, one-mul}
+use Prim.Native.Nat.{ℕ, _+_, _*_, _/_, _%_, _≤_, _<_}
+use native.Mathlib.Nat.{div-add-mod', mod-lt}
 use native.Mathlib.Omega.{arith}
 use borrow.Author.Tests.{eq-eqb, eqb-false, eqb-true, lt-ltb, ltb-true, ne-eqb}
 use lib.Dec.{eqb, ltb, lit<}
@@ -13,55 +13,52 @@ use Rattle.controller.specs.declared.cells.Counter.{Counter}
 use Rattle.controller.specs.declared.cells.Counter.the-variants.{Display, Pattern}
 use Rattle.controller.specs.declared.«record».Record.{Record}
 use Rattle.controller.specs.Bus.{whole}
-use Rattle.controller.specs.Cells.{lineLength}
 use Rattle.controller.specs.Answers.{isRefusal, numberOf, Tells}
 use Rattle.controller.specs.Record.{sound, withFunction}
 use Rattle.controller.proofs.Laws.Answers.{none-applies, row-applies, tells-as}
 use Rattle.controller.proofs.Laws.Rows.{sound-tests, whole-tests}
 use Rattle.controller.proofs.Laws.Tests.{Fails, fails-and, fails-le, tests-fails, tests-lt}
-use Rattle.controller.proofs.Laws.Choice.{and-left, and-right}
 use Rattle.dots.specs.declared.geometry.Shown.{Shown}
 use Rattle.dots.specs.declared.geometry.Shown.the-variants.{Cell, Undriven}
-use Rattle.dots.specs.declared.geometry.Size.{Size}
+use Rattle.dots.specs.declared.panel.Profile.{Profile}
+use Rattle.dots.specs.declared.panel.Profile.the-variants.{Plain, FourRows, Divided, Unknown}
+use Rattle.dots.specs.declared.panel.Size.{Size}
 use Rattle.dots.specs.Font.{font}
-use Rattle.dots.specs.Geometry.{cellAt, cellIn, drivenLines, fitsGlass, height, isShownIn, pictureLength}
+use Rattle.dots.specs.Geometry.{cellAt, cellIn, height, pictureLength, shownAt}
+use Rattle.dots.specs.Panel.{fitsGlass, fitsPlain, sizeOf}
 use Rattle.dots.specs.Picture.{answerFor, answered, pictureByte, cellRow, covered, dotsAt, cursorSets, isOn, output, outputLeft, painted, rowOf, shownRow}
-use Rattle.dots.specs.Theorems.{CursorShows, Draws, EachByte, EightRows, FAltersNothing, FiveDots, LaterStay, LineShows, LowFive, OffDark, OnGlass, OnePicture, OnePosition, PatternShows, PictureAnswers, PictureRefusals, PositionDots, SecondLineDark, OffGlass, nextCell, rowsFor}
-use Rattle.dots.proofs.Answers.{glass-columns, passed}
+use Rattle.dots.specs.Theorems.{CursorShows, Draws, EachByte, EightRows, FAltersNothing, FiveDots, LaterStay, LineShows, LowFive, OffDark, OnePicture, PatternShows, PictureAnswers, PictureRefusals, PositionDots, OffGlass, nextCell, pictureBytes, rowsFor}
+use Rattle.dots.proofs.Answers.{passed}
 use Rattle.dots.proofs.Logic.{and-false, either, of-either, or-true}
 use Rattle.dots.proofs.Painting.{painted-at, painted-length, painted-past}
-use Rattle.dots.proofs.Places.{column-of-place, dots-are-byte, row-ends, row-of-place}
+use Rattle.dots.proofs.Places.{dots-are-byte, row-ends}
 use Rattle.dots.proofs.Table.{row-below}
 
 pub off-dark : OffDark
 unfolding dotsAt
-off-dark shapes rec mem lit line row column d = rw d refl
-
-pub second-line-dark : SecondLineDark
-unfolding dotsAt shownRow cellIn
-second-line-dark shapes rec mem lit row column n = rw n (either (λ (k : ℕ). k ≡ 0) (rec .control .d) 0 0 refl refl)
+off-dark shapes rec mem lit profile line row column d = rw d refl
 
 -- What an answer 0 tells: the output has room, and it is painted.
-module _ (rec : Record) (mem : List ℕ) (size : Size) (lit : Bool) (out : List ℕ) where
-  room : Draws rec mem size out → pictureLength (rec .function) size ≤ length out
+module _ (rec : Record) (mem : List ℕ) (profile : Profile) (lit : Bool) (out : List ℕ) where
+  room : Draws rec mem profile out → pictureLength (rec .function) profile ≤ length out
   unfolding isRefusal
-  room d = passed rec mem size _ _ (ap isRefusal d) .room
+  room d = passed rec mem profile _ _ (ap isRefusal d) .room
 
-  drawn : Draws rec mem size out → output rec mem size lit out ≡ painted (pictureByte font rec mem lit size) 0 (pictureLength (rec .function) size) out
+  drawn : Draws rec mem profile out → output rec mem profile lit out ≡ painted (pictureByte font rec mem lit profile) 0 (pictureLength (rec .function) profile) out
   unfolding output isRefusal
   drawn d = rw d refl
 
   -- A byte of the picture, by its place.
-  byte : (at : ℕ) → Draws rec mem size out → at < pictureLength (rec .function) size → getD (output rec mem size lit out) at 0 ≡ pictureByte font rec mem lit size at
-  byte at d h = rw (drawn d) (painted-at _ 0 out (pictureLength (rec .function) size) at (omega arith) (omega arith) (omega (arith, room d)))
+  byte : (at : ℕ) → Draws rec mem profile out → at < pictureLength (rec .function) profile → getD (output rec mem profile lit out) at 0 ≡ pictureByte font rec mem lit profile at
+  byte at d h = rw (drawn d) (painted-at _ 0 out (pictureLength (rec .function) profile) at (omega arith) (omega arith) (omega (arith, room d)))
 
 pub each-byte : EachByte
-each-byte rec mem size lit out line row column d hl hr hc =
+each-byte rec mem profile lit out line row column d hl hr hc =
     let h = height (rec .function) in
-    let within : line * h + row < size .lines * h = omega (arith, row-ends h line (size .lines) hl) in
-    byte rec mem size lit out ((line * h + row) * size .columns + column) d (omega (arith, row-ends (size .columns) (line * h + row) (size .lines * h) within))
-    ∙ sym (dots-are-byte font rec mem lit size (line * h + row) column h refl hc)
-    ∙ rw (row-of-place h line row hr, column-of-place h line row hr) refl
+    let columns = sizeOf profile .columns in
+    let within : line * h + row < sizeOf profile .lines * h = omega (arith, row-ends h line (sizeOf profile .lines) hl) in
+    byte rec mem profile lit out ((line * h + row) * columns + column) d (omega (arith, row-ends columns (line * h + row) (sizeOf profile .lines * h) within))
+    ∙ sym (dots-are-byte font rec mem lit profile line row column hr hc)
 
 pub eight-rows : EightRows
 unfolding height
@@ -69,10 +66,10 @@ eight-rows function = refl
 
 pub later-stay : LaterStay
 unfolding output
-later-stay rec mem size lit out =
-    let long = pictureLength (rec .function) size in
-    let f = pictureByte font rec mem lit size in
-    let refused = isRefusal (answered rec mem size (length out)) in (
+later-stay rec mem profile lit out =
+    let long = pictureLength (rec .function) profile in
+    let f = pictureByte font rec mem lit profile in
+    let refused = isRefusal (answered rec mem profile (length out)) in (
       λ at h. either (λ (l : List ℕ). getD l at 0 ≡ getD out at 0) refused out (painted f 0 long out) refl (painted-past f 0 out long at (omega arith)),
       either (λ (l : List ℕ). length l ≡ length out) refused out (painted f 0 long out) refl (painted-length f 0 out long),
     )
@@ -88,15 +85,15 @@ shown-below rec mem lit row (Cell cell) =
     either (λ (k : ℕ). k < 32) (covered rec lit row cell) 0b11111 (rowOf font mem (getD mem cell 0) row) (lit< tt) (row-of-below mem (getD mem cell 0) row)
 shown-below rec mem lit row Undriven = lit< tt
 
-byte-below : (rec : Record) (mem : List ℕ) (lit : Bool) (size : Size) (at : ℕ) → pictureByte font rec mem lit size at < 32
+byte-below : (rec : Record) (mem : List ℕ) (lit : Bool) (profile : Profile) (at : ℕ) → pictureByte font rec mem lit profile at < 32
 unfolding pictureByte dotsAt
-byte-below rec mem lit size at = either (λ (k : ℕ). k < 32) (rec .control .d) _ 0 (shown-below rec mem lit _ _) (lit< tt)
+byte-below rec mem lit profile at = either (λ (k : ℕ). k < 32) (rec .control .d) _ 0 (shown-below rec mem lit _ _) (lit< tt)
 
 pub five-dots : FiveDots
-five-dots rec mem size lit out at d h = rw (byte rec mem size lit out at d h) (byte-below rec mem lit size at)
+five-dots rec mem profile lit out at d h = rw (byte rec mem profile lit out at d h) (byte-below rec mem lit profile at)
 
 -- What a position shows that shows a cell.
-shown-at : (driven length shift line column cell : ℕ) → cellIn driven length shift line column ≡ Cell cell
+pub shown-at : (driven length shift line column cell : ℕ) → cellIn driven length shift line column ≡ Cell cell
     → (ltb line driven ≡ true) × (line * length + (column + shift) % length ≡ cell)
 unfolding cellIn
 shown-at driven length shift line column cell = go (ltb line driven)
@@ -152,78 +149,9 @@ line-shows =
 
 pub position-dots : PositionDots
 unfolding dotsAt shownRow
-position-dots shapes rec mem lit line row column cell d shows =
-    ap (λ (b : Bool). cond b (shownRow shapes rec mem lit row (cellAt (rec .function .n) (rec .shift) line column)) 0) d
+position-dots shapes rec mem lit profile line row column cell d shows =
+    ap (λ (b : Bool). cond b (shownRow shapes rec mem lit row (shownAt (rec .function .n) (rec .shift) profile line column)) 0) d
     ∙ ap (shownRow shapes rec mem lit row) shows
-
--- At shift 0, position p of a line shows its cell p.
-in-place : (driven length cell line position : ℕ) → position < length → cellIn driven length 0 line position ≡ Cell cell → line * length + position ≡ cell
-in-place driven length cell line position h e = rw (add-zero, mod-eq-of-lt h) at (shown-at driven length 0 line position cell e .1)
-
-apart : (driven length cell line position line′ position′ : ℕ) → position < length → position′ < length → cellIn driven length 0 line position ≡ Cell cell → cellIn driven length 0 line′ position′ ≡ Cell cell → (line ≡ line′) × (position ≡ position′)
-apart driven length cell line position line′ position′ h h′ e e′ =
-    let same : line * length + position ≡ line′ * length + position′ = in-place driven length cell line position h e ∙ sym (in-place driven length cell line′ position′ h′ e′) in (
-      sym (row-of-place length line position h) ∙ ap (λ (k : ℕ). k / length) same ∙ row-of-place length line′ position′ h′,
-      sym (column-of-place length line position h) ∙ ap (λ (k : ℕ). k % length) same ∙ column-of-place length line′ position′ h′,
-    )
-
-line-long : (n : Bool) → 40 ≤ lineLength n
-line-long true = omega arith
-line-long false = omega arith
-
-pub one-position : OnePosition
-one-position n size cell line position line′ position′ g hl hl′ hp hp′ e e′ =
-    let most = glass-columns size g in
-    let long = line-long n in
-    apart (drivenLines n) (lineLength n) cell line position line′ position′ (omega arith) (omega arith) e e′
-
--- A column, shifted on and back again.
-turned-back : (length shift column : ℕ) → column < length → (column + shift + (length - shift % length)) % length ≡ column
-turned-back length shift column h =
-    let some : 0 < length = omega arith in
-    let whole : column + shift + (length - shift % length) ≡ column + (shift / length + 1) * length =
-    omega (arith, div-add-mod' shift length, mod-lt shift some, add-mul (shift / length) 1 length, one-mul length) in
-    rw (whole, add-mul-mod-self-right) (mod-eq-of-lt h)
-
-module _ (driven length shift : ℕ) (size : Size) (cell : ℕ) (some : 0 < length) where
-  found : isShownIn driven length shift size cell ≡ true
-      → cellIn driven length shift (cell / length) ((cell % length + (length - shift % length)) % length) ≡ Cell cell
-  unfolding isShownIn cellIn
-  found is =
-      let turned : cell % length + (length - shift % length) + shift ≡ cell % length + shift + (length - shift % length) = omega arith in
-      let back : ((cell % length + (length - shift % length)) % length + shift) % length ≡ cell % length =
-      rw (mod-add-mod, turned) (turned-back length shift (cell % length) (mod-lt cell some)) in
-      let driving : ltb (cell / length) driven ≡ true = and-left _ _ is in
-      rw (driving, back) (ap Cell (div-add-mod' cell length))
-
-  showing : (line column : ℕ) → column < length → line < size .lines → column < size .columns → cellIn driven length shift line column ≡ Cell cell
-      → isShownIn driven length shift size cell ≡ true
-  unfolding isShownIn
-  showing line column within l k e =
-      let at = shown-at driven length shift line column cell e in
-      let inside = mod-lt (column + shift) some in
-      let row : cell / length ≡ line = rw (sym (at .1)) (row-of-place length line _ inside) in
-      let rest : cell % length ≡ (column + shift) % length = rw (sym (at .1)) (column-of-place length line _ inside) in
-      let back : (cell % length + (length - shift % length)) % length ≡ column = rw (rest, mod-add-mod) (turned-back length shift column within) in
-      simp (row, back, at .0, lt-ltb line _ l, lt-ltb column _ k)
-
-pub on-glass : OnGlass
-unfolding isShownIn
-on-glass n shift size cell fits =
-    let length = lineLength n in
-    let long : 40 ≤ length = line-long n in
-    let most = glass-columns size fits in (
-      λ is. let shown = and-right (ltb (cell / length) (drivenLines n)) _ is in
-          record {
-            line = cell / length;
-            column = (cell % length + (length - shift % length)) % length;
-            on-line = ltb-true (cell / length) (size .lines) (and-left _ _ shown);
-            on-column = ltb-true _ (size .columns) (and-right (ltb (cell / length) (size .lines)) _ shown);
-            shows = found (drivenLines n) length shift size cell (omega arith) is;
-          },
-      λ p. let k = p .on-column in
-          showing (drivenLines n) length shift size cell (omega arith) (p .line) (p .column) (omega arith) (p .on-line) k (p .shows),
-    )
 
 -- The pattern of a code below 8, at its own place.
 pattern-of : (shapes mem : List ℕ) (code row : ℕ) → code < 8 → rowOf shapes mem code row ≡ getD mem (80 + (8 * code + row)) 0 % 32
@@ -265,42 +193,52 @@ unfolding shownRow cellRow covered height
 shown-without-f shapes rec f mem lit row (Cell cell) = refl
 shown-without-f shapes rec f mem lit row Undriven = refl
 
-byte-without-f : (rec : Record) (f : Bool) (mem : List ℕ) (lit : Bool) (size : Size) (at : ℕ) → pictureByte font (withFunction (rec .wide) (record { n = rec .function .n; f = f }) rec) mem lit size at ≡ pictureByte font rec mem lit size at
+byte-without-f : (rec : Record) (f : Bool) (mem : List ℕ) (lit : Bool) (profile : Profile) (at : ℕ) → pictureByte font (withFunction (rec .wide) (record { n = rec .function .n; f = f }) rec) mem lit profile at ≡ pictureByte font rec mem lit profile at
 unfolding pictureByte dotsAt height
-byte-without-f rec f mem lit size at = rw (shown-without-f font rec f mem lit) refl
+byte-without-f rec f mem lit profile at = rw (shown-without-f font rec f mem lit) refl
 
 pub f-alters-nothing : FAltersNothing
 unfolding answerFor output sound height
-f-alters-nothing rec f mem size lit out =
-    (refl, ap (λ (g : ℕ → ℕ). outputLeft (answered rec mem size (length out)) g (pictureLength (rec .function) size) out) (fun-ext (byte-without-f rec f mem lit size)))
+f-alters-nothing rec f mem profile lit out =
+    (refl, ap (λ (g : ℕ → ℕ). outputLeft (answered rec mem profile (length out)) g (pictureLength (rec .function) profile) out) (fun-ext (byte-without-f rec f mem lit profile)))
 
-glass-fails : (size : Size) → Fails (fitsGlass size) (OffGlass size)
-unfolding fitsGlass
-glass-fails size =
+plain-fails : (size : Size) → Fails (fitsPlain size) (OffGlass (Plain size))
+unfolding fitsPlain OffGlass
+plain-fails size =
     fails-and _ _ (fails-le 1 (size .columns))
     (fails-and _ _ (fails-le (size .columns) 40) (fails-and _ _ (fails-le 1 (size .lines)) (fails-le (size .lines) 2)))
 
+glass-fails : (profile : Profile) → Fails (fitsGlass profile) (OffGlass profile)
+unfolding fitsGlass OffGlass
+glass-fails (Plain size) = plain-fails size
+glass-fails FourRows = record { yes = true≢false; no = λ e none. none }
+glass-fails Divided = record { yes = true≢false; no = λ e none. none }
+glass-fails Unknown = record { yes = λ e. tt; no = λ e off. false≢true e }
+
 -- The number of such a call's answer is that of the first row that applies.
-pub answers-given : (rec : Record) (mem : List ℕ) (size : Size) (bytes room : ℕ)
-    → Tells (numberOf (answerFor rec mem size bytes room)) (rowsFor rec mem size bytes room)
+pub answers-given : (rec : Record) (mem : List ℕ) (profile : Profile) (bytes room : ℕ)
+    → Tells (numberOf (answerFor rec mem profile bytes room)) (rowsFor rec mem profile bytes room)
 unfolding answerFor rowsFor
-answers-given rec mem size bytes room =
-    let test : numberOf (answerFor rec mem size bytes room)
-    ≡ cond (not (sound rec)) 1 (cond (not (whole mem)) 2 (cond (not (fitsGlass size)) 10 (cond (ltb room bytes) 11 0))) = simp (of-either numberOf) in
+answers-given rec mem profile bytes room =
+    let test : numberOf (answerFor rec mem profile bytes room)
+    ≡ cond (not (sound rec)) 1 (cond (not (whole mem)) 2 (cond (not (fitsGlass profile)) 10 (cond (ltb room bytes) 11 0))) = simp (of-either numberOf) in
     tells-as _ _ _ test
     (row-applies _ _ _ _ (sound-tests rec)
     (λ _. row-applies _ _ _ _ (whole-tests mem)
-    (λ _. row-applies _ _ _ _ (tests-fails (fitsGlass size) (glass-fails size))
+    (λ _. row-applies _ _ _ _ (tests-fails (fitsGlass profile) (glass-fails profile))
     (λ _. row-applies _ _ _ _ (tests-lt room bytes)
     (λ _. none-applies)))))
 
 pub picture-answers : PictureAnswers
-unfolding height
-picture-answers rec mem size room = answers-given rec mem size _ room
+unfolding height sizeOf pictureBytes
+picture-answers rec mem (Plain size) room = answers-given rec mem (Plain size) _ room
+picture-answers rec mem FourRows room = answers-given rec mem FourRows _ room
+picture-answers rec mem Divided room = answers-given rec mem Divided _ room
+picture-answers rec mem Unknown room = answers-given rec mem Unknown _ room
 
 pub picture-refusals : PictureRefusals
 unfolding output
-picture-refusals rec mem size lit out e = rw e refl
+picture-refusals rec mem profile lit out e = rw e refl
 
 pub one-picture : OnePicture
-one-picture rec mem size lit before a b x y p q = (p .told ∙ sym (q .told), p .out ∙ sym (q .out))
+one-picture rec mem profile lit before a b x y p q = (p .told ∙ sym (q .told), p .out ∙ sym (q .out))

@@ -7,18 +7,11 @@ use Prim.Native.Nat.{ℕ, _<_}
 use lib.ListN.{getD, set}
 use Rattle.controller.specs.declared.«record».Half.the-variants.{Empty}
 use Rattle.controller.specs.declared.«record».Record.{Record}
-use Rattle.controller.specs.Cells.{addOfCell}
 use Rattle.controller.specs.Cases.{Waits, taking}
-use Rattle.dots.specs.declared.geometry.Shown.{Shown}
-use Rattle.dots.specs.declared.geometry.Shown.the-variants.{Cell, Undriven}
-use Rattle.dots.specs.declared.geometry.Size.{Size}
+use Rattle.dots.specs.declared.panel.Profile.{Profile}
 use Rattle.dots.specs.Geometry.{cellAt}
 use Rattle.dots.specs.Picture.{output, rowOf}
-
--- What is shown is the display cell at this address.
-abbrev pub ShowsAddress : Bool → Shown → ℕ → Type 0
-ShowsAddress n (Cell cell) address = addOfCell n cell .0 ≡ address
-ShowsAddress n Undriven address = ⊥
+use Rattle.dots.specs.Profiles.{ShowsAddress}
 
 -- Lines 1 and 2 start at these addresses.
 abbrev pub LinesStart : Record → ℕ → ℕ → Type 0
@@ -38,5 +31,6 @@ P5 =
 abbrev pub P7 : Type 0
 P7 =
     ((shapes mem : List ℕ) (row : ℕ) → rowOf shapes mem 0x00 row ≡ rowOf shapes mem 0x08 row)
-    × ((rec : Record) (mem : List ℕ) (size : Size) (lit : Bool) (out : List ℕ) (cell : ℕ) → cell < 80 → getD mem cell 0 ≡ 0x00
-    → output rec (set mem cell 0x08) size lit out ≡ output rec mem size lit out)
+    × ((rec : Record) (mem : List ℕ) (profile : Profile) (lit : Bool) (out : List ℕ) (cell : ℕ)
+    → cell < 80 → getD mem cell 0 ≡ 0x00
+    → output rec (set mem cell 0x08) profile lit out ≡ output rec mem profile lit out)

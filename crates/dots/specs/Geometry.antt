@@ -1,18 +1,15 @@
--- The size of a picture, and the display cell that each of its positions shows (document 01, "The dots"). Lines, rows and
--- columns count from 0, so that line 2 is number 1 and the eighth row number 7.
+-- The size of a picture, and the display cell that each position shows (document 01, "The dots"). Lines, rows and columns count
+-- from 0, so that line 2 is number 1 and the eighth row number 7.
 -- Assumes nothing.
 use mathlib.Core.Bool.{Bool, cond, _&&_}
 use Prim.Native.Nat.{ℕ, _+_, _-_, _*_, _/_, _%_, _<_}
-use lib.Dec.{ltb, leb}
+use lib.Dec.{ltb}
 use Rattle.controller.specs.declared.«record».Function.{Function}
 use Rattle.controller.specs.Cells.{lineLength}
 use Rattle.dots.specs.declared.geometry.Shown.{Shown}
 use Rattle.dots.specs.declared.geometry.Shown.the-variants.{Cell, Undriven}
-use Rattle.dots.specs.declared.geometry.Size.{Size}
-
--- Columns 1 to 40, lines 1 or 2.
-unfoldable pub fitsGlass : Size → Bool
-fitsGlass size = leb 1 (size .columns) && (leb (size .columns) 40 && (leb 1 (size .lines) && leb (size .lines) 2))
+use Rattle.dots.specs.declared.panel.Profile.{Profile}
+use Rattle.dots.specs.Panel.{onGlass, placeAt, sizeOf}
 
 -- The rows of a character: eight, whatever N and F are.
 unfoldable pub height : Function → ℕ
@@ -23,10 +20,10 @@ abbrev pub tallest : ℕ
 tallest = 8
 
 -- The bytes of a picture: lines x 8 x columns.
-abbrev pub pictureLength : Function → Size → ℕ
-pictureLength function size = size .lines * height function * size .columns
+abbrev pub pictureLength : Function → Profile → ℕ
+pictureLength function profile = sizeOf profile .lines * height function * sizeOf profile .columns
 
--- Every picture has room in so many bytes: two lines of 40 columns.
+-- Every picture has room in so many bytes: two lines of 40 columns, or four of 20.
 abbrev pub pictureRoom : ℕ
 pictureRoom = 2 * tallest * 40
 
@@ -44,16 +41,20 @@ cellIn driven length shift line position =
 abbrev pub cellAt : Bool → ℕ → ℕ → ℕ → Shown
 cellAt n shift line position = cellIn (drivenLines n) (lineLength n) shift line position
 
--- With so many lines of so many cells driven, a position shows this display cell: its line is driven and on the glass, and so is
--- its column after the shift.
-unfoldable pub isShownIn : ℕ → ℕ → ℕ → Size → ℕ → Bool
-isShownIn driven length shift size cell =
-    ltb (cell / length) driven
-    && (ltb (cell / length) (size .lines) && ltb ((cell % length + (length - shift % length)) % length) (size .columns))
+-- The cell that a position of the glass shows: that of its place.
+abbrev pub shownAt : Bool → ℕ → Profile → ℕ → ℕ → Shown
+shownAt n shift profile line column =
+    cellAt n shift (placeAt profile line column .line) (placeAt profile line column .position)
+
+-- With so many lines of so many cells driven, a position of the glass shows this display cell: its line is driven, and its
+-- place after the shift is on the glass.
+unfoldable pub isShownIn : ℕ → ℕ → ℕ → Profile → ℕ → Bool
+isShownIn driven length shift profile cell =
+    ltb (cell / length) driven && onGlass profile (cell / length) ((cell % length + (length - shift % length)) % length)
 
 -- A position of the glass shows this display cell.
-abbrev pub isShown : Bool → ℕ → Size → ℕ → Bool
-isShown n shift size cell = isShownIn (drivenLines n) (lineLength n) shift size cell
+abbrev pub isShown : Bool → ℕ → Profile → ℕ → Bool
+isShown n shift profile cell = isShownIn (drivenLines n) (lineLength n) shift profile cell
 
 -- What is shown is a display cell, 0 to 79, where it is a cell.
 abbrev pub ShownWithin : Shown → Type 0

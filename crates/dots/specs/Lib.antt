@@ -1,6 +1,9 @@
+pub mod Panel
 pub mod Geometry
 pub mod Font
+pub mod Stretch
 pub mod Picture
 pub mod Promises
 pub mod Theorems
+pub mod Profiles
 pub mod Cases

@@ -18,9 +18,10 @@ use Rattle.controller.specs.Answers.{numberOf, isRefusal}
 use Rattle.controller.specs.Record.{sound}
 use Rattle.dots.specs.declared.geometry.Shown.{Shown}
 use Rattle.dots.specs.declared.geometry.Shown.the-variants.{Cell, Undriven}
-use Rattle.dots.specs.declared.geometry.Size.{Size}
+use Rattle.dots.specs.declared.panel.Profile.{Profile}
 use Rattle.dots.specs.Font.{font, tableLength, tableRow}
-use Rattle.dots.specs.Geometry.{fitsGlass, height, pictureLength, cellAt}
+use Rattle.dots.specs.Geometry.{height, pictureLength, cellAt}
+use Rattle.dots.specs.Panel.{fitsGlass, placeAt, sizeOf}
 
 -- Pattern (code modulo 8), low five bits. The pattern cells stand behind the 80 display cells, eight to a pattern.
 abbrev pub patternRow : List ℕ → ℕ → ℕ → ℕ
@@ -52,16 +53,22 @@ unfoldable pub shownRow : List ℕ → Record → List ℕ → Bool → ℕ → 
 shownRow shapes rec mem lit row (Cell cell) = cellRow shapes rec mem lit row cell
 shownRow shapes rec mem lit row Undriven = 0
 
--- The five dots at a line, a row and a column, bit 4 leftmost. D=0: all zero.
+-- The five dots at a line of the controller, a row and a position, bit 4 leftmost. D=0: all zero.
 unfoldable pub dotsAt : List ℕ → Record → List ℕ → Bool → ℕ → ℕ → ℕ → ℕ
-dotsAt shapes rec mem lit line row column =
-    cond (rec .control .d) (shownRow shapes rec mem lit row (cellAt (rec .function .n) (rec .shift) line column)) 0
+dotsAt shapes rec mem lit line row position =
+    cond (rec .control .d) (shownRow shapes rec mem lit row (cellAt (rec .function .n) (rec .shift) line position)) 0
+
+-- The five dots at a line of the glass, a row and a column: those of its place.
+abbrev pub dotsOn : List ℕ → Record → List ℕ → Bool → Profile → ℕ → ℕ → ℕ → ℕ
+dotsOn shapes rec mem lit profile line row column =
+    dotsAt shapes rec mem lit (placeAt profile line column .line) row (placeAt profile line column .position)
 
 -- Output byte (line x 8 + row) x columns + column holds the five dots at line, row and column.
-unfoldable pub pictureByte : List ℕ → Record → List ℕ → Bool → Size → ℕ → ℕ
-pictureByte shapes rec mem lit size at =
-    dotsAt shapes rec mem lit
-    (at / size .columns / height (rec .function)) (at / size .columns % height (rec .function)) (at % size .columns)
+unfoldable pub pictureByte : List ℕ → Record → List ℕ → Bool → Profile → ℕ → ℕ
+pictureByte shapes rec mem lit profile at =
+    let columns = sizeOf profile .columns in
+    let rows = height (rec .function) in
+    dotsOn shapes rec mem lit profile (at / columns / rows) (at / columns % rows) (at % columns)
 
 -- Bytes start to start + count - 1 become f of their place; all others stay.
 unfoldable pub painted : (ℕ → ℕ) → ℕ → ℕ → List ℕ → List ℕ
@@ -69,11 +76,11 @@ painted f start zero out = out
 painted f start (suc count) out = set (painted f start count out) (start + count) (f (start + count))
 
 -- The answer where so many bytes are to be drawn, the refusals in their order: 1, 2, 10, 11. `room` is the length of the output.
-unfoldable pub answerFor : Record → List ℕ → Size → ℕ → ℕ → Answer
-answerFor rec mem size bytes room =
+unfoldable pub answerFor : Record → List ℕ → Profile → ℕ → ℕ → Answer
+answerFor rec mem profile bytes room =
     cond (not (sound rec)) Unsound
     (cond (not (whole mem)) NotWhole
-    (cond (not (fitsGlass size)) BadSize
+    (cond (not (fitsGlass profile)) BadSize
     (cond (ltb room bytes) OutputShort
     Done)))
 
@@ -82,20 +89,21 @@ abbrev pub outputLeft : Answer → (ℕ → ℕ) → ℕ → List ℕ → List �
 outputLeft answer byte bytes out = cond (isRefusal answer) out (painted byte 0 bytes out)
 
 -- The answer of the picture.
-abbrev pub answered : Record → List ℕ → Size → ℕ → Answer
-answered rec mem size room = answerFor rec mem size (pictureLength (rec .function) size) room
+abbrev pub answered : Record → List ℕ → Profile → ℕ → Answer
+answered rec mem profile room = answerFor rec mem profile (pictureLength (rec .function) profile) room
 
 -- The output that the picture leaves.
-unfoldable pub output : Record → List ℕ → Size → Bool → List ℕ → List ℕ
-output rec mem size lit out =
-    outputLeft (answered rec mem size (length out)) (pictureByte font rec mem lit size) (pictureLength (rec .function) size) out
+unfoldable pub output : Record → List ℕ → Profile → Bool → List ℕ → List ℕ
+output rec mem profile lit out =
+    outputLeft (answered rec mem profile (length out)) (pictureByte font rec mem lit profile)
+    (pictureLength (rec .function) profile) out
 
 -- What `picture` promises: the answer, its number in the table, and every byte of the output.
-pub record Pictured (rec : Record) (mem : List ℕ) (size : Size) (lit : Bool) (before : List ℕ) (answer : Answer) (after : List ℕ)
-    : Type 0 where
-  pub told : answer ≡ answered rec mem size (length before)
-  pub number : numberOf answer ≡ numberOf (answered rec mem size (length before))
-  pub out : after ≡ output rec mem size lit before
+pub record Pictured (rec : Record) (mem : List ℕ) (profile : Profile) (lit : Bool) (before : List ℕ) (answer : Answer)
+    (after : List ℕ) : Type 0 where
+  pub told : answer ≡ answered rec mem profile (length before)
+  pub number : numberOf answer ≡ numberOf (answered rec mem profile (length before))
+  pub out : after ≡ output rec mem profile lit before
 
 -- What the functions that draw lean on: of a sound record the shift, and the lengths of the table and of the memory.
 pub record Drawable (shapes : List ℕ) (rec : Record) (mem : List ℕ) : Type 0 where

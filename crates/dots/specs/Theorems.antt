@@ -1,10 +1,11 @@
 -- What is proved of the definitions, in the order of document 01, "The dots"; then the rules of the answers. A rule is said in
 -- another way than its definition says it, by steps, ranges or plain numbers, so that a theorem fails where a definition is
 -- wrong. Each theorem is a type here, and its proof stands in proofs/Theorems.antt or, of the table, in proofs/Table.antt.
+-- The theorems of the panels stand in Profiles.antt.
 -- Assumes nothing.
 use mathlib.Core.Bool.{Bool, true, false, cond, _&&_}
 use mathlib.Core.List.{List, [], _∷_}
-use mathlib.Core.Logic.{_⊎_, _↔_}
+use mathlib.Core.Logic.{_⊎_}
 use mathlib.Core.Path.{_≡_}
 use Prim.Native.Nat.{ℕ, _+_, _*_, _%_, _≤_, _<_}
 use lib.Dec.{eqb}
@@ -18,22 +19,25 @@ use Rattle.controller.specs.Answers.{isRefusal, numberOf, Row, Tells}
 use Rattle.controller.specs.Record.{withFunction}
 use Rattle.controller.specs.Rows.{Breaks, NotLong}
 use Rattle.dots.specs.declared.geometry.Shown.the-variants.{Cell}
-use Rattle.dots.specs.declared.geometry.Size.{Size}
+use Rattle.dots.specs.declared.panel.Profile.{Profile}
+use Rattle.dots.specs.declared.panel.Profile.the-variants.{Plain, FourRows, Divided, Unknown}
 use Rattle.dots.specs.Font.{font, shapeRows, tableLength, tableRow}
-use Rattle.dots.specs.Geometry.{fitsGlass, height, pictureLength, cellAt, isShown}
-use Rattle.dots.specs.Picture.{Pictured, answered, cellRow, dotsAt, output, rowOf}
+use Rattle.dots.specs.Geometry.{height, pictureLength, cellAt, shownAt}
+use Rattle.dots.specs.Panel.{sizeOf}
+use Rattle.dots.specs.Picture.{Pictured, answered, cellRow, dotsOn, output, rowOf}
 
 -- This call is answered 0.
-abbrev pub Draws : Record → List ℕ → Size → List ℕ → Type 0
-Draws rec mem size out = answered rec mem size (length out) ≡ Done
+abbrev pub Draws : Record → List ℕ → Profile → List ℕ → Type 0
+Draws rec mem profile out = answered rec mem profile (length out) ≡ Done
 
 -- Output byte (line x 8 + row) x columns + column holds the five dots at line, row and column.
 abbrev pub EachByte : Type 0
 EachByte =
-    (rec : Record) (mem : List ℕ) (size : Size) (lit : Bool) (out : List ℕ) (line row column : ℕ)
-    → Draws rec mem size out → line < size .lines → row < height (rec .function) → column < size .columns
-    → getD (output rec mem size lit out) ((line * height (rec .function) + row) * size .columns + column) 0
-    ≡ dotsAt font rec mem lit line row column
+    (rec : Record) (mem : List ℕ) (profile : Profile) (lit : Bool) (out : List ℕ) (line row column : ℕ)
+    → Draws rec mem profile out
+    → line < sizeOf profile .lines → row < height (rec .function) → column < sizeOf profile .columns
+    → getD (output rec mem profile lit out) ((line * height (rec .function) + row) * sizeOf profile .columns + column) 0
+    ≡ dotsOn font rec mem lit profile line row column
 
 -- That is eight rows to a line, whatever N and F are.
 abbrev pub EightRows : Type 0
@@ -42,16 +46,16 @@ EightRows = (function : Function) → height function ≡ 8
 -- Five dots and no more: every byte of a picture is below 32.
 abbrev pub FiveDots : Type 0
 FiveDots =
-    (rec : Record) (mem : List ℕ) (size : Size) (lit : Bool) (out : List ℕ) (at : ℕ)
-    → Draws rec mem size out → at < pictureLength (rec .function) size
-    → getD (output rec mem size lit out) at 0 < 32
+    (rec : Record) (mem : List ℕ) (profile : Profile) (lit : Bool) (out : List ℕ) (at : ℕ)
+    → Draws rec mem profile out → at < pictureLength (rec .function) profile
+    → getD (output rec mem profile lit out) at 0 < 32
 
 -- Later bytes stay, and the output keeps its length.
 abbrev pub LaterStay : Type 0
 LaterStay =
-    (rec : Record) (mem : List ℕ) (size : Size) (lit : Bool) (out : List ℕ)
-    → ((at : ℕ) → pictureLength (rec .function) size ≤ at → getD (output rec mem size lit out) at 0 ≡ getD out at 0)
-    × (length (output rec mem size lit out) ≡ length out)
+    (rec : Record) (mem : List ℕ) (profile : Profile) (lit : Bool) (out : List ℕ)
+    → ((at : ℕ) → pictureLength (rec .function) profile ≤ at → getD (output rec mem profile lit out) at 0 ≡ getD out at 0)
+    × (length (output rec mem profile lit out) ≡ length out)
 
 -- The cell behind this one in its line, and behind the line's last cell its first. With N=0 line 1 has cells 0 to 79; with N=1
 -- line 1 has cells 0 to 39 and line 2 cells 40 to 79.
@@ -59,8 +63,8 @@ unfoldable pub nextCell : Bool → ℕ → ℕ
 nextCell false cell = cond (eqb cell 79) 0 (cell + 1)
 nextCell true cell = cond (eqb cell 39) 0 (cond (eqb cell 79) 40 (cell + 1))
 
--- The cell of each position, by steps. At shift 0 line 1 begins with cell 0 and, with N=1, line 2 with cell 40. The next position
--- shows the next cell of the line, and one more shift shows at each position what the next one showed.
+-- The cell of each position of a line, by steps. At shift 0 line 1 begins with cell 0 and, with N=1, line 2 with cell 40. The
+-- next position shows the next cell of the line, and one more shift shows at each position what the next one showed.
 pub record LineShows : Type 0 where
   pub first : (n : Bool) → cellAt n 0 0 0 ≡ Cell 0
   pub second : cellAt true 0 1 0 ≡ Cell 40
@@ -69,40 +73,12 @@ pub record LineShows : Type 0 where
       → cellAt n shift line position ≡ Cell cell → cellAt n shift line (position + 1) ≡ Cell (nextCell n cell)
   pub shifted : (n : Bool) (shift line position : ℕ) → cellAt n (shift + 1) line position ≡ cellAt n shift line (position + 1)
 
--- With D=1 a position that shows a cell has the dots of that cell.
+-- With D=1 a position of the glass that shows a cell has the dots of that cell.
 abbrev pub PositionDots : Type 0
 PositionDots =
-    (shapes : List ℕ) (rec : Record) (mem : List ℕ) (lit : Bool) (line row column cell : ℕ)
-    → rec .control .d ≡ true → cellAt (rec .function .n) (rec .shift) line column ≡ Cell cell
-    → dotsAt shapes rec mem lit line row column ≡ cellRow shapes rec mem lit row cell
-
--- At shift 0 no cell shows at two positions: for every size in range and both N.
-abbrev pub OnePosition : Type 0
-OnePosition =
-    (n : Bool) (size : Size) (cell line position line′ position′ : ℕ)
-    → fitsGlass size ≡ true → line < size .lines → line′ < size .lines → position < size .columns → position′ < size .columns
-    → cellAt n 0 line position ≡ Cell cell → cellAt n 0 line′ position′ ≡ Cell cell
-    → (line ≡ line′) × (position ≡ position′)
-
--- A position of the glass, and the display cell that it shows.
-pub record Position (n : Bool) (shift : ℕ) (size : Size) (cell : ℕ) : Type 0 where
-  pub line : ℕ
-  pub column : ℕ
-  pub on-line : line < size .lines
-  pub on-column : column < size .columns
-  pub shows : cellAt n shift line column ≡ Cell cell
-
--- A display cell is shown exactly where a position of the glass shows it.
-abbrev pub OnGlass : Type 0
-OnGlass =
-    (n : Bool) (shift : ℕ) (size : Size) (cell : ℕ) → fitsGlass size ≡ true
-    → (isShown n shift size cell ≡ true) ↔ Position n shift size cell
-
--- N=0: line 2 is zero.
-abbrev pub SecondLineDark : Type 0
-SecondLineDark =
-    (shapes : List ℕ) (rec : Record) (mem : List ℕ) (lit : Bool) (row column : ℕ)
-    → rec .function .n ≡ false → dotsAt shapes rec mem lit 1 row column ≡ 0
+    (shapes : List ℕ) (rec : Record) (mem : List ℕ) (lit : Bool) (profile : Profile) (line row column cell : ℕ)
+    → rec .control .d ≡ true → shownAt (rec .function .n) (rec .shift) profile line column ≡ Cell cell
+    → dotsOn shapes rec mem lit profile line row column ≡ cellRow shapes rec mem lit row cell
 
 -- The low five bits of a byte: below 32, and the byte is a multiple of 32 more.
 pub record LowFive (byte low : ℕ) : Type 0 where
@@ -146,10 +122,10 @@ TableRows =
 -- F does not alter the picture, nor the answer.
 abbrev pub FAltersNothing : Type 0
 FAltersNothing =
-    (rec : Record) (f : Bool) (mem : List ℕ) (size : Size) (lit : Bool) (out : List ℕ)
+    (rec : Record) (f : Bool) (mem : List ℕ) (profile : Profile) (lit : Bool) (out : List ℕ)
     → let other = withFunction (rec .wide) (record { n = rec .function .n; f = f }) rec in
-    (answered other mem size (length out) ≡ answered rec mem size (length out))
-    × (output other mem size lit out ≡ output rec mem size lit out)
+    (answered other mem profile (length out) ≡ answered rec mem profile (length out))
+    × (output other mem profile lit out ≡ output rec mem profile lit out)
 
 -- With the counter on this display cell, C=1 sets all five dots of its last row, and B=1 in the lit phase those of every row.
 -- Any other row is that of the cell's code.
@@ -175,40 +151,50 @@ CursorShows = (shapes : List ℕ) (rec : Record) (mem : List ℕ) (cell : ℕ) �
 -- D=0: all zero.
 abbrev pub OffDark : Type 0
 OffDark =
-    (shapes : List ℕ) (rec : Record) (mem : List ℕ) (lit : Bool) (line row column : ℕ)
-    → rec .control .d ≡ false → dotsAt shapes rec mem lit line row column ≡ 0
+    (shapes : List ℕ) (rec : Record) (mem : List ℕ) (lit : Bool) (profile : Profile) (line row column : ℕ)
+    → rec .control .d ≡ false → dotsOn shapes rec mem lit profile line row column ≡ 0
 
--- Row 10: columns outside 1 to 40, or lines outside 1 and 2.
-abbrev pub OffGlass : Size → Type 0
-OffGlass size = (size .columns < 1) ⊎ ((40 < size .columns) ⊎ ((size .lines < 1) ⊎ (2 < size .lines)))
+-- Row 10: columns outside 1 to 40, or lines outside 1 and 2, of the plain geometry; or an unknown profile.
+unfoldable pub OffGlass : Profile → Type 0
+OffGlass (Plain size) = (size .columns < 1) ⊎ ((40 < size .columns) ⊎ ((size .lines < 1) ⊎ (2 < size .lines)))
+OffGlass FourRows = ⊥
+OffGlass Divided = ⊥
+OffGlass Unknown = Unit {0}
 
 -- The rows of a call that draws so many bytes, in their order.
-unfoldable pub rowsFor : Record → List ℕ → Size → ℕ → ℕ → List Row
-rowsFor rec mem size bytes room =
+unfoldable pub rowsFor : Record → List ℕ → Profile → ℕ → ℕ → List Row
+rowsFor rec mem profile bytes room =
     record { number = 1; applies = Breaks rec }
     ∷ record { number = 2; applies = NotLong mem }
-    ∷ record { number = 10; applies = OffGlass size }
+    ∷ record { number = 10; applies = OffGlass profile }
     ∷ record { number = 11; applies = room < bytes }
     ∷ []
 
--- The rows of picture, which draws lines x 8 x columns bytes.
-abbrev pub pictureRows : Record → List ℕ → Size → ℕ → List Row
-pictureRows rec mem size room = rowsFor rec mem size (size .lines * 8 * size .columns) room
+-- The bytes that picture draws: lines x 8 x columns, 640 for the 20 x 4 panel and 128 for the divided row.
+unfoldable pub pictureBytes : Profile → ℕ
+pictureBytes (Plain size) = size .lines * 8 * size .columns
+pictureBytes FourRows = 640
+pictureBytes Divided = 128
+pictureBytes Unknown = 0
+
+-- The rows of picture.
+abbrev pub pictureRows : Record → List ℕ → Profile → ℕ → List Row
+pictureRows rec mem profile room = rowsFor rec mem profile (pictureBytes profile) room
 
 -- Each number is given exactly where its row applies and none before it in the order.
 abbrev pub PictureAnswers : Type 0
 PictureAnswers =
-    (rec : Record) (mem : List ℕ) (size : Size) (room : ℕ)
-    → Tells (numberOf (answered rec mem size room)) (pictureRows rec mem size room)
+    (rec : Record) (mem : List ℕ) (profile : Profile) (room : ℕ)
+    → Tells (numberOf (answered rec mem profile room)) (pictureRows rec mem profile room)
 
 -- A refusal leaves the output as found.
 abbrev pub PictureRefusals : Type 0
 PictureRefusals =
-    (rec : Record) (mem : List ℕ) (size : Size) (lit : Bool) (out : List ℕ)
-    → isRefusal (answered rec mem size (length out)) ≡ true → output rec mem size lit out ≡ out
+    (rec : Record) (mem : List ℕ) (profile : Profile) (lit : Bool) (out : List ℕ)
+    → isRefusal (answered rec mem profile (length out)) ≡ true → output rec mem profile lit out ≡ out
 
 -- No second answer fits: two answers that both meet the promise are one, and so are the outputs.
 abbrev pub OnePicture : Type 0
 OnePicture =
-    (rec : Record) (mem : List ℕ) (size : Size) (lit : Bool) (before : List ℕ) (a b : Answer) (x y : List ℕ)
-    → Pictured rec mem size lit before a x → Pictured rec mem size lit before b y → (a ≡ b) × (x ≡ y)
+    (rec : Record) (mem : List ℕ) (profile : Profile) (lit : Bool) (before : List ℕ) (a b : Answer) (x y : List ℕ)
+    → Pictured rec mem profile lit before a x → Pictured rec mem profile lit before b y → (a ≡ b) × (x ≡ y)

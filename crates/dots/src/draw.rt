@@ -5,18 +5,24 @@ ghost use mathlib.Core.Path.{_≡_};
 ghost use Prim.Native.Nat.{_*_, _+_, _≤_, _<_};
 ghost use lib.ListN.{length};
 ghost use Rattle.dots.specs.Font.{tableLength};
-ghost use Rattle.dots.specs.Geometry.{ShownWithin, fitsGlass, height, pictureLength, tallest};
+ghost use Rattle.dots.specs.Geometry.{ShownWithin, height, pictureLength, tallest};
+ghost use Rattle.dots.specs.Panel.{fitsGlass};
 ghost use Rattle.dots.specs.Picture.{Drawable, pictureByte, cellRow, covered, dotsAt, isOn, cursorSets, painted};
 ghost use Rattle.dots.specs.Picture.{patternRow, rowOf, shownRow};
 ghost use Rattle.dots.specs.Promises.{PicturePromise};
+ghost use Rattle.dots.specs.Stretch.{stretch, stretches};
 use crate::font::table;
 use crate::font::table_row;
 use crate::geometry::Shown;
-use crate::geometry::Size;
 use crate::geometry::cell_at;
-use crate::geometry::fits_glass;
 use crate::geometry::picture_length;
 use crate::geometry::rows_of;
+use crate::panel::Profile;
+use crate::panel::fits_glass;
+use crate::panel::place_at;
+use crate::stretch::part_at;
+use crate::stretch::stretch_of;
+use crate::stretch::stretches_of;
 use controller::Answer;
 use controller::Control;
 use controller::Counter;
@@ -96,7 +102,7 @@ fn shown_row(shapes: &[u8], rec: Record, memory: &[u8], lit: bool, row: usize, s
     }
 }
 
-// The five dots at a line, a row and a column.
+// The five dots at a line of the controller, a row and a position.
 fn dots_at(
     shapes: &[u8],
     rec: Record,
@@ -104,10 +110,10 @@ fn dots_at(
     lit: bool,
     line: usize,
     row: usize,
-    column: usize,
+    position: usize,
 ) -> u8
-    requires { ⌜ (Drawable (now shapes) rec (now memory)) × (row < height (rec .function)) × (column < 40) ⌝ }
-    ensures { λ r. ⌜ r ≡ dotsAt (now (shapes .entry)) rec (now (memory .entry)) lit line row column ⌝ }
+    requires { ⌜ (Drawable (now shapes) rec (now memory)) × (row < height (rec .function)) × (position < 40) ⌝ }
+    ensures { λ r. ⌜ r ≡ dotsAt (now (shapes .entry)) rec (now (memory .entry)) lit line row position ⌝ }
 {
     if rec.control.d {
         let n = rec.function.n;
@@ -118,61 +124,62 @@ fn dots_at(
             memory,
             lit,
             row,
-            cell_at(n, shift, line, column),
+            cell_at(n, shift, line, position),
         );
     }
     0
 }
 
-// One row of dots through all columns. `at` counts the rows of the whole glass from its top.
-fn draw_row(
+// One row of dots of a stretch. `at` counts these parts of the picture from its start.
+fn draw_part(
     shapes: &[u8],
     rec: Record,
     memory: &[u8],
     lit: bool,
-    size: Size,
+    profile: Profile,
     at: usize,
     out: &mut [u8],
 )
-    requires { ⌜ (Drawable (now shapes) rec (now memory)) × (fitsGlass size ≡ true)
-        × (at * size .columns + size .columns ≤ length (now out)) ⌝ }
+    requires { ⌜ (Drawable (now shapes) rec (now memory)) × (fitsGlass profile ≡ true)
+        × (at < stretches profile * height (rec .function)) × (at * stretch profile + stretch profile ≤ length (now out)) ⌝ }
     ensures { λ _.
-        let byte = pictureByte (now (shapes .entry)) rec (now (memory .entry)) lit size in
-        ⌜ now (out .exit) ≡ painted byte (at * size .columns) (size .columns) (now (out .entry)) ⌝ }
+        let byte = pictureByte (now (shapes .entry)) rec (now (memory .entry)) lit profile in
+        ⌜ now (out .exit) ≡ painted byte (at * stretch profile) (stretch profile) (now (out .entry)) ⌝ }
 {
     let function = rec.function;
-    let rows = rows_of(function);
-    let line = at / rows;
-    let row = at % rows;
-    let start = at * size.columns as usize;
+    let part = part_at(profile, rows_of(function), at);
+    let place = place_at(profile, part.line, part.column);
+    let columns = stretch_of(profile);
+    let start = at * columns;
     let mut column = 0;
-    while column < size.columns as usize {
-        out[start + column] = dots_at(shapes, rec, memory, lit, line, row, column);
+    while column < columns {
+        let position = place.position + column;
+        out[start + column] = dots_at(shapes, rec, memory, lit, place.line, part.row, position);
         column += 1;
     }
 }
 
-// The whole picture, row after row.
-fn draw(shapes: &[u8], rec: Record, memory: &[u8], lit: bool, size: Size, out: &mut [u8])
-    requires { ⌜ (Drawable (now shapes) rec (now memory)) × (fitsGlass size ≡ true)
-        × (pictureLength (rec .function) size ≤ length (now out)) ⌝ }
+// The whole picture, part after part.
+fn draw(shapes: &[u8], rec: Record, memory: &[u8], lit: bool, profile: Profile, out: &mut [u8])
+    requires { ⌜ (Drawable (now shapes) rec (now memory)) × (fitsGlass profile ≡ true)
+        × (pictureLength (rec .function) profile ≤ length (now out)) ⌝ }
     ensures { λ _.
-        let byte = pictureByte (now (shapes .entry)) rec (now (memory .entry)) lit size in
-        ⌜ now (out .exit) ≡ painted byte 0 (pictureLength (rec .function) size) (now (out .entry)) ⌝ }
+        let byte = pictureByte (now (shapes .entry)) rec (now (memory .entry)) lit profile in
+        ⌜ now (out .exit) ≡ painted byte 0 (pictureLength (rec .function) profile) (now (out .entry)) ⌝ }
 {
     let function = rec.function;
-    let rows = size.lines as usize * rows_of(function);
+    let parts = stretches_of(profile) * rows_of(function);
     let mut at = 0;
-    while at < rows {
-        draw_row(shapes, rec, memory, lit, size, at, out);
+    while at < parts {
+        draw_part(shapes, rec, memory, lit, profile, at, out);
         at += 1;
     }
 }
 
 // Draws what the panel shows into the first lines x 8 x columns bytes of the output, or refuses and leaves the output as
 // it is.
-pub fn picture(rec: Record, memory: &[u8], size: Size, lit: bool, out: &mut [u8]) -> Answer
-    ensures { λ r. ⌜ PicturePromise rec (now (memory .entry)) size lit (now (out .entry)) r (now (out .exit)) ⌝ }
+pub fn picture(rec: Record, memory: &[u8], profile: Profile, lit: bool, out: &mut [u8]) -> Answer
+    ensures { λ r. ⌜ PicturePromise rec (now (memory .entry)) profile lit (now (out .entry)) r (now (out .exit)) ⌝ }
 {
     if !is_sound(rec) {
         return Answer::Unsound;
@@ -180,14 +187,14 @@ pub fn picture(rec: Record, memory: &[u8], size: Size, lit: bool, out: &mut [u8]
     if !is_whole(memory) {
         return Answer::NotWhole;
     }
-    if !fits_glass(size) {
+    if !fits_glass(profile) {
         return Answer::BadSize;
     }
     let function = rec.function;
-    if out.len() < picture_length(function, size) {
+    if out.len() < picture_length(function, profile) {
         return Answer::OutputShort;
     }
     let shapes = table();
-    draw(&shapes, rec, memory, lit, size, out);
+    draw(&shapes, rec, memory, lit, profile, out);
     Answer::Done
 }

@@ -119,11 +119,11 @@ fn put_block(out: &mut [u8], at: usize, first: u8) -> usize
 {
     let memory = codes_from(first);
     let mut picture = [0u8; 128];
-    let size = dots::Size {
+    let panel = dots::Profile::Plain(dots::Size {
         columns: 16,
         lines: 1,
-    };
-    dots::picture(shown(), &memory, size, false, &mut picture);
+    });
+    dots::picture(shown(), &memory, panel, false, &mut picture);
     let named = put_codes(out, at, first);
     put_rows(out, named, &picture)
 }

@@ -137,11 +137,11 @@ fn see_dots(seen: &mut [u8], picture: &[u8; 256], position: usize)
 // What is seen on the glass, which has 16 columns and two lines; a smaller one is its upper left part.
 fn see_glass(seen: &mut [u8], shapes: &[u8; 768], rec: Record, memory: &[u8; 144], view: u8) {
     let mut picture = [0u8; 256];
-    let size = dots::Size {
+    let panel = dots::Profile::Plain(dots::Size {
         columns: 16,
         lines: 2,
-    };
-    dots::picture(rec, memory, size, false, &mut picture);
+    });
+    dots::picture(rec, memory, panel, false, &mut picture);
     let n = rec.function.n;
     match view {
         b'L' => see_line(seen, shapes, &picture),

@@ -16,11 +16,11 @@ fn plain() -> Record {
 fn shape_of(code: u8) -> [u8; 8] {
     let memory = [code; 144];
     let mut shape = [0u8; 8];
-    let size = dots::Size {
+    let panel = dots::Profile::Plain(dots::Size {
         columns: 1,
         lines: 1,
-    };
-    dots::picture(plain(), &memory, size, false, &mut shape);
+    });
+    dots::picture(plain(), &memory, panel, false, &mut shape);
     shape
 }
 
