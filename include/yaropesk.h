@@ -31,7 +31,7 @@
 #define YAROPESK_STALE_READ 7      /* no refusal: a data read of a stale register, done */
 #define YAROPESK_CROSSED_HALVES 8  /* no refusal: done, the second half was of another kind than the first */
 #define YAROPESK_COUNTER_OFF 9     /* the counter is on no cell; never given, since such a record is answered 1 before */
-#define YAROPESK_BAD_SIZE 10       /* columns or lines out of range */
+#define YAROPESK_BAD_SIZE 10       /* columns or lines out of range, or an unknown profile */
 #define YAROPESK_OUTPUT_SHORT 11   /* the output is too short */
 #define YAROPESK_NOT_WISH 13       /* the wish or a mark is none */
 #define YAROPESK_OUTSIDE_SUBSET 14 /* a capture's text outside the subset */
@@ -49,7 +49,7 @@
 #define YAROPESK_TRANSFER_SIZE 6
 #define YAROPESK_PLAN_SIZE 2808   /* the longest plan, 468 transfers */
 #define YAROPESK_LINE_SIZE 16     /* the longest session line */
-#define YAROPESK_PICTURE_SIZE 640 /* the largest picture, 2 lines of 8 rows of 40 columns */
+#define YAROPESK_PICTURE_SIZE 640 /* the largest picture, 2 lines of 8 rows of 40 columns, or 4 of 20 */
 
 /* A memory: display cells 0 to 79, then pattern cells 0 to 63.
  * With N=0 the display cells are one line, and cell c has the address c. With N=1 cells 0 to 39 are line 1, addresses 00h
@@ -94,6 +94,11 @@
 #define YAROPESK_HALF_DATA_WRITE 2
 #define YAROPESK_HALF_STATUS_READ 3
 #define YAROPESK_HALF_DATA_READ 4
+
+/* A panel's profile: its columns and lines, and the addresses that they start at, with N=1 and the shift 0. */
+#define YAROPESK_PLAIN 0     /* 1 to 40 columns; line 1 at 00h and, where there is one, line 2 at 40h */
+#define YAROPESK_FOUR_ROWS 1 /* 20 columns; lines 1 to 4 at 00h, 40h, 14h and 54h */
+#define YAROPESK_DIVIDED 2   /* 16 columns, one line: columns 1 to 8 at 00h, columns 9 to 16 at 40h */
 
 /* A transfer's kind. */
 #define YAROPESK_INSTRUCTION_WRITE 0
@@ -141,12 +146,13 @@ uint32_t yaropesk_reset(uint8_t *record, size_t record_length, uint8_t *memory, 
 uint32_t yaropesk_transfer(uint8_t *record, size_t record_length, uint8_t *memory, size_t memory_length, uint8_t kind,
                            uint8_t byte, uint32_t wait);
 
-/* What a panel of 1 to 40 columns and 1 or 2 lines shows, into an output of at least lines x 8 x columns bytes. Byte
- * (line x 8 + row) x columns + column, each counted from 0, holds five dots, bit 4 leftmost, below three zeros. lit is
- * the phase of the blinking: 0 dark, any other lit.
+/* What a panel shows, into an output of at least lines x 8 x columns bytes. profile is one of the three above; columns, 1 to
+ * 40, and lines, 1 or 2, are those of a plain panel, and the other two take no notice of them: they are 20 x 4, 640 bytes,
+ * and 16 x 1, 128 bytes. Byte (line x 8 + row) x columns + column, each counted from 0, holds five dots, bit 4 leftmost,
+ * below three zeros. With N=0 what starts at 40h or 54h is zero. lit is the phase of the blinking: 0 dark, any other lit.
  * Answers: 1, 2, 10, 11, or 0. The value is 0. */
 uint32_t yaropesk_picture(const uint8_t *record, size_t record_length, const uint8_t *memory, size_t memory_length,
-                          uint8_t columns, uint8_t lines, uint8_t lit, uint8_t *out, size_t out_length);
+                          uint8_t profile, uint8_t columns, uint8_t lines, uint8_t lit, uint8_t *out, size_t out_length);
 
 /* The plan of a wish: the transfers, six bytes each, that bring a panel into the wished state. A mark, 1 or 0 for each of
  * the 144 cells, says whether to write the cell; its value, read only where marked, says what. The waits follow the wish's

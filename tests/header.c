@@ -1,6 +1,6 @@
-/* What include/yaropesk.h says is so, tried by calling the library: its sizes, answers and kinds, where each byte stands, what
- * a sound record is, the times at each frequency, what the transfers of a plan may be answered, and captures. Compiles as C99
- * and as C++98.
+/* What include/yaropesk.h says is so, tried by calling the library: its sizes, answers and kinds, the panels, where each byte
+ * stands, what a sound record is, the times at each frequency, what the transfers of a plan may be answered, and captures.
+ * Compiles as C99 and as C++98.
  * Prints a line for each check that fails, then 'N passed, M failed', and fails where M is not 0. */
 #include <stdio.h>
 #include <string.h>
@@ -51,9 +51,13 @@ static uint32_t plan_all(void) {
     return plan(YAROPESK_WISH_SIZE, YAROPESK_MEMORY_SIZE, YAROPESK_MEMORY_SIZE, YAROPESK_PLAN_SIZE);
 }
 
+static uint32_t picture_on(unsigned profile, unsigned columns, unsigned lines, size_t out_length) {
+    return yaropesk_picture(record, YAROPESK_RECORD_SIZE, memory, YAROPESK_MEMORY_SIZE, (uint8_t)profile, (uint8_t)columns,
+                            (uint8_t)lines, 1, out, out_length);
+}
+
 static uint32_t picture(unsigned columns, unsigned lines, size_t out_length) {
-    return yaropesk_picture(record, YAROPESK_RECORD_SIZE, memory, YAROPESK_MEMORY_SIZE, (uint8_t)columns, (uint8_t)lines, 1,
-                            out, out_length);
+    return picture_on(YAROPESK_PLAIN, columns, lines, out_length);
 }
 
 /* A frequency, as its two bytes. */
@@ -115,6 +119,46 @@ static void try_output_sizes(void) {
     uint32_t line = yaropesk_write_line(YAROPESK_DATA_WRITE, 0xFF, 4294967295u, out, YAROPESK_LINE_SIZE);
     check("longest line", 0, line == YAROPESK_DONE + 256 * YAROPESK_LINE_SIZE);
     answered("short line", yaropesk_write_line(YAROPESK_DATA_WRITE, 0, 0, out, YAROPESK_LINE_SIZE - 1), YAROPESK_OUTPUT_SHORT);
+}
+
+/* The panels of fixed size: how long their pictures are, whatever the columns and lines, and that no other is known. */
+static void try_profiles(void) {
+    start();
+    answered("four rows", picture_on(YAROPESK_FOUR_ROWS, 0, 255, 640), YAROPESK_DONE);
+    answered("four rows, short", picture_on(YAROPESK_FOUR_ROWS, 1, 1, 639), YAROPESK_OUTPUT_SHORT);
+    answered("divided row", picture_on(YAROPESK_DIVIDED, 255, 0, 128), YAROPESK_DONE);
+    answered("divided row, short", picture_on(YAROPESK_DIVIDED, 1, 1, 127), YAROPESK_OUTPUT_SHORT);
+    for (unsigned profile = 3; profile < 256; profile++)
+        answered("unknown profile", picture_on(profile, 16, 2, YAROPESK_PICTURE_SIZE), YAROPESK_BAD_SIZE);
+}
+
+/* Where a panel shows the display cell at each address: a pattern of all dots there is seen at this line and column alone. */
+static void try_places(void) {
+    static const struct {
+        unsigned profile, columns, lines, line, column, address;
+    } rows[] = {
+        {YAROPESK_PLAIN, 16, 2, 0, 0, 0x00},      {YAROPESK_PLAIN, 16, 2, 1, 15, 0x4F},
+        {YAROPESK_FOUR_ROWS, 20, 4, 0, 0, 0x00},  {YAROPESK_FOUR_ROWS, 20, 4, 0, 19, 0x13},
+        {YAROPESK_FOUR_ROWS, 20, 4, 1, 0, 0x40},  {YAROPESK_FOUR_ROWS, 20, 4, 2, 0, 0x14},
+        {YAROPESK_FOUR_ROWS, 20, 4, 3, 0, 0x54},  {YAROPESK_FOUR_ROWS, 20, 4, 3, 19, 0x67},
+        {YAROPESK_DIVIDED, 16, 1, 0, 7, 0x07},    {YAROPESK_DIVIDED, 16, 1, 0, 8, 0x40},
+        {YAROPESK_DIVIDED, 16, 1, 0, 15, 0x47},
+    };
+    for (unsigned i = 0; i < sizeof rows / sizeof rows[0]; i++) {
+        unsigned bytes = rows[i].lines * 8 * rows[i].columns, lit = 0;
+        start();
+        memset(memory + YAROPESK_PATTERN_START, 0x1F, 8);
+        sent(YAROPESK_INSTRUCTION_WRITE, 0x38); /* N=1 */
+        sent(YAROPESK_INSTRUCTION_WRITE, 0x0C); /* D=1 */
+        sent(YAROPESK_INSTRUCTION_WRITE, 0x80 | rows[i].address);
+        sent(YAROPESK_DATA_WRITE, 0x00);
+        picture_on(rows[i].profile, rows[i].columns, rows[i].lines, bytes);
+        for (unsigned at = 0; at < bytes; at++)
+            lit += out[at] != 0;
+        check("dots of one cell", i, lit == 8);
+        for (unsigned row = 0; row < 8; row++)
+            check("place of a cell", i, out[(rows[i].line * 8 + row) * rows[i].columns + rows[i].column] == 0x1F);
+    }
 }
 
 /* Session lines: each kind's letter, and where a transfer's bytes stand. */
@@ -543,6 +587,8 @@ int main(void) {
     put_khz(wish + YAROPESK_WISH_FREQUENCY, YAROPESK_KHZ_OLDER);
     try_lent_sizes();
     try_output_sizes();
+    try_profiles();
+    try_places();
     try_lines();
     try_answers();
     try_record();

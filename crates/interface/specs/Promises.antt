@@ -19,9 +19,9 @@ YaropeskTransferPromise bytes mem kind byte wait returned left after =
     Leaves (transferCall bytes mem kind byte wait) returned left after
 
 -- `yaropesk_picture`: the number returned and every byte of the output.
-abbrev pub YaropeskPicturePromise : List ℕ → List ℕ → ℕ → ℕ → ℕ → List ℕ → ℕ → List ℕ → Type 0
-YaropeskPicturePromise bytes mem columns lines lit out returned after =
-    Fills (pictureCall bytes mem columns lines lit out) returned after
+abbrev pub YaropeskPicturePromise : List ℕ → List ℕ → ℕ → ℕ → ℕ → ℕ → List ℕ → ℕ → List ℕ → Type 0
+YaropeskPicturePromise bytes mem profile columns lines lit out returned after =
+    Fills (pictureCall bytes mem profile columns lines lit out) returned after
 
 -- `yaropesk_plan`: the number returned and every byte of the buffer.
 abbrev pub YaropeskPlanPromise : List ℕ → List ℕ → List ℕ → List ℕ → ℕ → List ℕ → Type 0

@@ -15,6 +15,7 @@ use Rattle.controller.specs.Record.{sound}
 use Rattle.controller.specs.Rows.{Breaks, resetRows, transferRows}
 use Rattle.controller.specs.Theorems.{left}
 use Rattle.captures.specs.Theorems.{importRows}
+use Rattle.dots.specs.declared.panel.Profile.the-variants.{Plain, FourRows, Divided, Unknown}
 use Rattle.dots.specs.Theorems.{pictureRows}
 use Rattle.lines.specs.Faults.{readerRows}
 use Rattle.lines.specs.Reading.{lineOf}
@@ -28,7 +29,7 @@ use Rattle.interface.specs.CaptureCalls.{importCall}
 use Rattle.interface.specs.ControllerCalls.{Call, refusal, resetCall, transferCall}
 use Rattle.interface.specs.Filling.{Filling, declined}
 use Rattle.interface.specs.LineCalls.{readCall, writeCall}
-use Rattle.interface.specs.PictureCalls.{pictureCall, sizeOf}
+use Rattle.interface.specs.PictureCalls.{pictureCall, profileOf}
 use Rattle.interface.specs.PlanCalls.{planCall}
 use Rattle.interface.specs.RecordBytes.{recordBytes, recordIn}
 use Rattle.interface.specs.WishBytes.{wishBytes, wishIn}
@@ -108,8 +109,8 @@ pub record CallRefusals : Type 0 where
   pub reset : (bytes mem : List ℕ) → KeepsMemory (resetCall bytes mem) mem (λ _. bytes)
   pub transfer : (bytes mem : List ℕ) (kind byte wait : ℕ)
       → KeepsMemory (transferCall bytes mem kind byte wait) mem (bytesLeft (recordIn bytes) bytes wait)
-  pub picture : (bytes mem : List ℕ) (columns lines lit : ℕ) (out : List ℕ)
-      → KeepsBuffer (pictureCall bytes mem columns lines lit out) out
+  pub picture : (bytes mem : List ℕ) (profile columns lines lit : ℕ) (out : List ℕ)
+      → KeepsBuffer (pictureCall bytes mem profile columns lines lit out) out
   pub plan : (wish marks values out : List ℕ) → KeepsBuffer (planCall wish marks values out) out
   pub write-line : (kind byte wait : ℕ) (out : List ℕ) → KeepsBuffer (writeCall kind byte wait out) out
   pub read-line : (text out : List ℕ) → KeepsBufferAt (lineOf text .offset) (readCall text out) out
@@ -142,12 +143,19 @@ pub record CallAnswers : Type 0 where
   pub reset : (bytes mem : List ℕ) → Tells (answerIn (resetCall bytes mem .returned)) (resetCallRows bytes mem)
   pub transfer : (bytes mem : List ℕ) (kind byte wait : ℕ)
       → OverRecord bytes (transferCall bytes mem kind byte wait .returned) (λ rec. transferRows rec mem kind byte wait)
-  pub picture : (bytes mem : List ℕ) (columns lines lit : ℕ) (out : List ℕ)
-      → OverRecord bytes (pictureCall bytes mem columns lines lit out .returned)
-      (λ rec. pictureRows rec mem (sizeOf columns lines) (length out))
+  pub picture : (bytes mem : List ℕ) (profile columns lines lit : ℕ) (out : List ℕ)
+      → OverRecord bytes (pictureCall bytes mem profile columns lines lit out .returned)
+      (λ rec. pictureRows rec mem (profileOf profile columns lines) (length out))
   pub plan : (wish marks values out : List ℕ)
       → Tells (answerIn (planCall wish marks values out .returned)) (planRows (NoneWished wish marks) marks values out)
   pub write-line : (kind byte wait : ℕ) (out : List ℕ)
       → Tells (answerIn (writeCall kind byte wait out .returned)) (writerRows kind byte out)
   pub read-line : (text out : List ℕ) → Tells (answerIn (readCall text out .returned)) (readRows text out)
   pub import : (capture out : List ℕ) → Tells (answerIn (importCall capture out .returned)) (importRows capture out)
+
+-- The numbers of the panels. Of row 10 that means: columns or lines out of range at 0, and any number above 2.
+pub record ProfileNumbers : Type 0 where
+  pub plain : (columns lines : ℕ) → profileOf 0 columns lines ≡ Plain (record { columns = columns; lines = lines })
+  pub four-rows : (columns lines : ℕ) → profileOf 1 columns lines ≡ FourRows
+  pub divided : (columns lines : ℕ) → profileOf 2 columns lines ≡ Divided
+  pub unknown : (profile columns lines : ℕ) → 2 < profile → profileOf profile columns lines ≡ Unknown

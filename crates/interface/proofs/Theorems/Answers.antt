@@ -25,7 +25,7 @@ use Rattle.controller.proofs.Theorems.Answers.{transfer-answers}
 use Rattle.captures.specs.Import.{importing}
 use Rattle.captures.specs.Theorems.{importRows}
 use Rattle.captures.proofs.Theorems.Answers.{import-answers}
-use Rattle.dots.specs.declared.geometry.Size.{Size}
+use Rattle.dots.specs.declared.panel.Profile.{Profile}
 use Rattle.dots.specs.Picture.{answered}
 use Rattle.dots.specs.Theorems.{pictureRows, rowsFor}
 use Rattle.dots.proofs.Theorems.{picture-answers}
@@ -50,7 +50,7 @@ use Rattle.interface.specs.CaptureCalls.{importCall}
 use Rattle.interface.specs.ControllerCalls.{Call, resetCall, transferCall, transferFrom}
 use Rattle.interface.specs.Filling.{Filling}
 use Rattle.interface.specs.LineCalls.{lineTold, stored, writeCall}
-use Rattle.interface.specs.PictureCalls.{pictureFrom, sizeOf}
+use Rattle.interface.specs.PictureCalls.{pictureFrom, profileOf}
 use Rattle.interface.specs.PlanCalls.{planFrom, wishless}
 use Rattle.interface.specs.RecordBytes.{recordFrom, isRecordLong, recordIn}
 use Rattle.interface.specs.Theorems.{AreOf, CallAnswers, NoneWished, OverRecord, answerIn, readRows, resetCallRows}
@@ -107,15 +107,15 @@ module _ (bytes mem : List ℕ) (kind byte wait : ℕ) where
       over-record bytes (λ read. transferFrom read bytes mem kind byte wait .returned) (λ rec. transferRows rec mem kind byte wait) refl
       (λ rec breaks. first-row _ _ _ (transfer-of rec) breaks) transfer-of
 
-module _ (bytes mem : List ℕ) (size : Size) (lit : Bool) (out : List ℕ) where
-  picture-of : (rec : Record) → Tells (answerIn (pictureFrom (Is rec) mem size lit out .returned)) (pictureRows rec mem size (length out))
+module _ (bytes mem : List ℕ) (profile : Profile) (lit : Bool) (out : List ℕ) where
+  picture-of : (rec : Record) → Tells (answerIn (pictureFrom (Is rec) mem profile lit out .returned)) (pictureRows rec mem profile (length out))
   unfolding pictureFrom
-  picture-of rec = tells (answered rec mem size (length out)) 0 _ _ (omega arith) (picture-answers rec mem size (length out))
+  picture-of rec = tells (answered rec mem profile (length out)) 0 _ _ (omega arith) (picture-answers rec mem profile (length out))
 
-  picture-tells : OverRecord bytes (pictureFrom (recordIn bytes) mem size lit out .returned) (λ rec. pictureRows rec mem size (length out))
+  picture-tells : OverRecord bytes (pictureFrom (recordIn bytes) mem profile lit out .returned) (λ rec. pictureRows rec mem profile (length out))
   unfolding pictureFrom rowsFor
   picture-tells =
-      over-record bytes (λ read. pictureFrom read mem size lit out .returned) (λ rec. pictureRows rec mem size (length out)) refl
+      over-record bytes (λ read. pictureFrom read mem profile lit out .returned) (λ rec. pictureRows rec mem profile (length out)) refl
       (λ rec breaks. first-row _ _ _ (picture-of rec) breaks) picture-of
 
 reset-number : (bytes mem : List ℕ) → answerIn (resetCall bytes mem .returned) ≡ cond (not (isRecordLong bytes)) 1 (cond (not (whole mem)) 2 0)
@@ -222,7 +222,7 @@ call-answers =
     record {
       reset = reset-tells;
       transfer = transfer-tells;
-      picture = λ bytes mem columns lines lit out. picture-tells bytes mem (sizeOf columns lines) (not (eqb lit 0)) out;
+      picture = λ bytes mem profile columns lines lit out. picture-tells bytes mem (profileOf profile columns lines) (not (eqb lit 0)) out;
       plan = λ wish marks values out. plan-tells wish marks values out (wishIn wish) refl;
       write-line = write-tells;
       read-line = read-tells;

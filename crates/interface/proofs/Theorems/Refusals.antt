@@ -24,7 +24,7 @@ use Rattle.controller.proofs.Theorems.Refusals.{transfer-refusals}
 use Rattle.captures.proofs.Theorems.Answers.{import-nothing}
 use Rattle.captures.specs.Import.{importing}
 use Rattle.dots.proofs.Theorems.{picture-refusals}
-use Rattle.dots.specs.declared.geometry.Size.{Size}
+use Rattle.dots.specs.declared.panel.Profile.{Profile}
 use Rattle.dots.specs.Picture.{answered}
 use Rattle.lines.specs.Reading.{lineOf}
 use Rattle.lines.specs.declared.reader.Line.{Line}
@@ -43,7 +43,7 @@ use Rattle.interface.specs.CaptureCalls.{importCall}
 use Rattle.interface.specs.ControllerCalls.{Call, resetCall, transferFrom}
 use Rattle.interface.specs.Filling.{Filling}
 use Rattle.interface.specs.LineCalls.{stored, writeCall}
-use Rattle.interface.specs.PictureCalls.{pictureFrom, sizeOf}
+use Rattle.interface.specs.PictureCalls.{pictureFrom, profileOf}
 use Rattle.interface.specs.PlanCalls.{planFrom, wishless}
 use Rattle.interface.specs.RecordBytes.{recordBytes, recordFrom, isRecordLong, recordIn}
 use Rattle.interface.specs.Theorems.{CallRefusals, KeepsBuffer, KeepsBufferAt, KeepsMemory, Refuses, answerIn, bytesLeft}
@@ -82,11 +82,11 @@ not-done : (answer : Answer) → isRefusal answer ≡ true → numberOf answer �
 unfolding isRefusal
 not-done answer r e = false≢true (ap isRefusal (sym (one-answer answer Done e)) ∙ r)
 
-picture-kept : (read : ReadRecord) (mem : List ℕ) (size : Size) (lit : Bool) (out : List ℕ) → KeepsBuffer (pictureFrom read mem size lit out) out
+picture-kept : (read : ReadRecord) (mem : List ℕ) (profile : Profile) (lit : Bool) (out : List ℕ) → KeepsBuffer (pictureFrom read mem profile lit out) out
 unfolding pictureFrom
-picture-kept Broken mem size lit out = buffer-kept _ out Unsound 0 (omega arith) (λ _. (refl, refl))
-picture-kept (Is rec) mem size lit out =
-    buffer-kept _ out (answered rec mem size (length out)) 0 (omega arith) (λ r. (refl, picture-refusals rec mem size lit out r))
+picture-kept Broken mem profile lit out = buffer-kept _ out Unsound 0 (omega arith) (λ _. (refl, refl))
+picture-kept (Is rec) mem profile lit out =
+    buffer-kept _ out (answered rec mem profile (length out)) 0 (omega arith) (λ r. (refl, picture-refusals rec mem profile lit out r))
 
 plan-kept : (read : ReadWish) (marks values out : List ℕ) → KeepsBuffer (planFrom read marks values out) out
 unfolding planFrom
@@ -178,7 +178,7 @@ call-refusals =
     record {
       reset = reset-kept;
       transfer = λ bytes mem kind byte wait. transfer-kept (recordIn bytes) bytes mem kind byte wait refl;
-      picture = λ bytes mem columns lines lit out. picture-kept (recordIn bytes) mem (sizeOf columns lines) (not (eqb lit 0)) out;
+      picture = λ bytes mem profile columns lines lit out. picture-kept (recordIn bytes) mem (profileOf profile columns lines) (not (eqb lit 0)) out;
       plan = λ wish marks values out. plan-kept (wishIn wish) marks values out;
       write-line = write-kept;
       read-line = read-kept;

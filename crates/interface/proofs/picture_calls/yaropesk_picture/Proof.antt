@@ -19,6 +19,9 @@ refused-requires c κs = search needs
 enum-known-read : tie.Need-enum-known-read
 enum-known-read c = search needs
 
+profile-of-requires : tie.Need-profile-of-requires
+profile-of-requires c κs = search needs
+
 picture-of-requires : tie.Need-picture-of-requires
 picture-of-requires c κs = search needs
 
@@ -31,7 +34,9 @@ same-length c = search needs
 
 returns-2 : tie.Need-returns-2
 unfolding pictureFrom
-returns-2 c = simp (sym (c .before .before .before .before .before .before .before .read-record .ensures) ∙ c .before .before .before .before .before .read .given .1) (search needs)
+returns-2 c =
+    let found = c .before .before .before .before .before .before in
+    rw (sym (found .before .before .read-record .ensures) ∙ found .read .given .1, sym (c .before .before .before .before .profile-of .ensures)) (search needs)
 
 pub yaropesk-picture-spec : {M : Type 1} → statement M
 yaropesk-picture-spec =
@@ -41,6 +46,7 @@ yaropesk-picture-spec =
     enum-told
     refused-requires
     enum-known-read
+    profile-of-requires
     picture-of-requires
     returns
     same-length
