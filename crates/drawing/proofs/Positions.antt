@@ -13,8 +13,8 @@ use Rattle.controller.specs.declared.cells.Counter.the-variants.{Display, Patte
 use Rattle.controller.specs.declared.«record».Record.{Record}
 use Rattle.dots.specs.declared.geometry.Shown.{Shown}
 use Rattle.dots.specs.declared.geometry.Shown.the-variants.{Cell, Undriven}
-use Rattle.dots.specs.declared.geometry.Size.{Size}
-use Rattle.dots.specs.Geometry.{cellAt}
+use Rattle.dots.specs.declared.panel.Profile.{Profile}
+use Rattle.dots.specs.Geometry.{shownAt}
 use Rattle.dots.proofs.Places.{column-of-place, row-of-place}
 use Rattle.drawing.specs.declared.grid.Grid.{Grid}
 use Rattle.drawing.specs.declared.drawing.Form.the-variants.{Letters}
@@ -29,7 +29,7 @@ letters-kept char low high = simp (le-ltb char 0x10 (omega arith), le-ltb char 0
 
 -- the byte at a row of the text and a column of the glass
 byte-of-column : (dots mem : List ℕ) (rec : Record) (grid : Grid) (row column : ℕ) → row < grid .size .lines * 2 → column < grid .size .columns
-    → drawnByte Letters dots mem rec grid (row * (grid .size .columns + 3) + (column + 1)) ≡ columnAt mem rec column row
+    → drawnByte Letters dots mem rec grid (row * (grid .size .columns + 3) + (column + 1)) ≡ columnAt mem rec (grid .profile) column row
 unfolding lettersByte lettersLength lettersWidth lettersAt fromColumn
 byte-of-column dots mem rec grid row column r k =
     let width = grid .size .columns + 3 in
@@ -52,7 +52,7 @@ letters-in-place dots mem rec grid line column cell l k on shown =
 
 -- the row below the letters
 caret-of : (dots mem : List ℕ) (rec : Record) (grid : Grid) (line column : ℕ) → line < grid .size .lines → column < grid .size .columns
-    → drawnByte Letters dots mem rec grid ((line * 2 + 1) * (grid .size .columns + 3) + (column + 1)) ≡ caretAt rec line column
+    → drawnByte Letters dots mem rec grid ((line * 2 + 1) * (grid .size .columns + 3) + (column + 1)) ≡ caretAt rec (grid .profile) line column
 unfolding columnAt
 caret-of dots mem rec grid line column l k =
     let odd : (line * 2 + 1) % 2 ≡ 1 = omega arith in
@@ -60,10 +60,10 @@ caret-of dots mem rec grid line column l k =
     byte-of-column dots mem rec grid (line * 2 + 1) column (omega arith) k ∙ simp (odd, half)
 
 -- what stands there is decided by the counter and the cell shown
-caret-is : (rec : Record) (line column : ℕ)
-    → caretAt rec line column ≡ cond (counterShown (rec .counter) (cellAt (rec .function .n) (rec .shift) line column)) (code "^") (code " ")
+caret-is : (rec : Record) (profile : Profile) (line column : ℕ)
+    → caretAt rec profile line column ≡ cond (counterShown (rec .counter) (shownAt (rec .function .n) (rec .shift) profile line column)) (code "^") (code " ")
 unfolding caretAt
-caret-is rec line column = refl
+caret-is rec profile line column = refl
 
 -- a caret is drawn where the test holds and nowhere else
 caret-tells : (b : Bool) → cond b (code "^") (code " ") ≡ code "^" → b ≡ true
@@ -84,11 +84,11 @@ on-shown counter Undriven is = absurd (false≢true is)
 pub caret-in-place : CaretInPlace
 caret-in-place dots mem rec grid line column l k = (there, here)
   where
-    there : drawnByte Letters dots mem rec grid ((line * 2 + 1) * (grid .size .columns + 3) + (column + 1)) ≡ code "^" → ShowsCounter rec line column
+    there : drawnByte Letters dots mem rec grid ((line * 2 + 1) * (grid .size .columns + 3) + (column + 1)) ≡ code "^" → ShowsCounter rec (grid .profile) line column
     there is =
-        let on = on-shown (rec .counter) (cellAt (rec .function .n) (rec .shift) line column)
-        (caret-tells _ (sym (caret-is rec line column) ∙ (sym (caret-of dots mem rec grid line column l k) ∙ is))) in
+        let on = on-shown (rec .counter) (shownAt (rec .function .n) (rec .shift) (grid .profile) line column)
+        (caret-tells _ (sym (caret-is rec (grid .profile) line column) ∙ (sym (caret-of dots mem rec grid line column l k) ∙ is))) in
         record { cell = on .cell; counter = on .counter-is; shown = on .shown-is }
 
-    here : ShowsCounter rec line column → drawnByte Letters dots mem rec grid ((line * 2 + 1) * (grid .size .columns + 3) + (column + 1)) ≡ code "^"
-    here shows = caret-of dots mem rec grid line column l k ∙ (caret-is rec line column ∙ simp (shows .counter, shows .shown, eq-eqb (shows .cell) (shows .cell) refl))
+    here : ShowsCounter rec (grid .profile) line column → drawnByte Letters dots mem rec grid ((line * 2 + 1) * (grid .size .columns + 3) + (column + 1)) ≡ code "^"
+    here shows = caret-of dots mem rec grid line column l k ∙ (caret-is rec (grid .profile) line column ∙ simp (shows .counter, shows .shown, eq-eqb (shows .cell) (shows .cell) refl))

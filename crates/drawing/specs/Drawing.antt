@@ -10,8 +10,9 @@ use Rattle.controller.specs.declared.answers.Answer.{Answer}
 use Rattle.controller.specs.declared.answers.Answer.the-variants.{Done, OutputShort}
 use Rattle.controller.specs.declared.«record».Record.{Record}
 use Rattle.controller.specs.Answers.{numberOf, isRefusal}
-use Rattle.dots.specs.declared.geometry.Size.{Size}
+use Rattle.dots.specs.declared.panel.Profile.{Profile}
 use Rattle.dots.specs.Geometry.{height, pictureRoom}
+use Rattle.dots.specs.Panel.{sizeOf}
 use Rattle.dots.specs.Picture.{answerFor, output, outputLeft}
 use Rattle.lines.specs.declared.writer.Written.{Written}
 use Rattle.drawing.specs.declared.drawing.Form.{Form}
@@ -62,10 +63,11 @@ blocksByte dots rec grid place =
     (stateByte rec (place - blocksLength grid))
 
 -- The letters row by row, then the state.
-unfoldable pub lettersByte : List ℕ → Record → Size → ℕ → ℕ
-lettersByte mem rec size place =
-    cond (ltb place (lettersLength size)) (lettersAt mem rec size (place % lettersWidth size) (place / lettersWidth size))
-    (stateByte rec (place - lettersLength size))
+unfoldable pub lettersByte : List ℕ → Record → Grid → ℕ → ℕ
+lettersByte mem rec grid place =
+    cond (ltb place (lettersLength (grid .size)))
+    (lettersAt mem rec grid (place % lettersWidth (grid .size)) (place / lettersWidth (grid .size)))
+    (stateByte rec (place - lettersLength (grid .size)))
 
 -- The head, then the pixels row by row.
 unfoldable pub bitmapByte : List ℕ → Grid → ℕ → ℕ
@@ -74,54 +76,54 @@ bitmapByte dots grid place =
     (pixelsAt dots grid ((place - headLength) % (lastX grid + 1)) ((place - headLength) / (lastX grid + 1)))
 
 -- The cells line by line, then the state.
-unfoldable pub listingByte : List ℕ → Record → Size → ℕ → ℕ
-listingByte mem rec size place =
+unfoldable pub listingByte : List ℕ → Record → Profile → ℕ → ℕ
+listingByte mem rec profile place =
     cond (ltb place listingLength)
-    (listingAt mem (rec .function .n) (rec .shift) size (place % listingWidth) (place / listingWidth))
+    (listingAt mem (rec .function .n) (rec .shift) profile (place % listingWidth) (place / listingWidth))
     (stateByte rec (place - listingLength))
 
 -- The legend, then the listing.
-unfoldable pub cellsByte : List ℕ → Record → Size → ℕ → ℕ
-cellsByte mem rec size place =
-    cond (ltb place legendLength) (getD legend place 0) (listingByte mem rec size (place - legendLength))
+unfoldable pub cellsByte : List ℕ → Record → Profile → ℕ → ℕ
+cellsByte mem rec profile place =
+    cond (ltb place legendLength) (getD legend place 0) (listingByte mem rec profile (place - legendLength))
 
 -- The byte at a place of a drawing.
 abbrev pub drawnByte : Form → List ℕ → List ℕ → Record → Grid → ℕ → ℕ
 drawnByte Dots dots mem rec grid place = frameByte dots rec grid place
 drawnByte Blocks dots mem rec grid place = blocksByte dots rec grid place
-drawnByte Letters dots mem rec grid place = lettersByte mem rec (grid .size) place
+drawnByte Letters dots mem rec grid place = lettersByte mem rec grid place
 drawnByte Bitmap dots mem rec grid place = bitmapByte dots grid place
-drawnByte Cells dots mem rec grid place = cellsByte mem rec (grid .size) place
+drawnByte Cells dots mem rec grid place = cellsByte mem rec (grid .profile) place
 
 -- The grid of a panel.
-abbrev pub gridFor : Record → Size → Grid
-gridFor rec size = record { size = size; rows = height (rec .function) }
+abbrev pub gridFor : Record → Profile → Grid
+gridFor rec profile = record { profile = profile; size = sizeOf profile; rows = height (rec .function) }
 
 -- The picture that is drawn, taken into a buffer that has room for every picture.
-abbrev pub dotsOf : Record → List ℕ → Size → Bool → List ℕ
-dotsOf rec mem size lit = output rec mem size lit (replicate pictureRoom 0)
+abbrev pub dotsOf : Record → List ℕ → Profile → Bool → List ℕ
+dotsOf rec mem profile lit = output rec mem profile lit (replicate pictureRoom 0)
 
 -- The bytes of a panel's drawing.
-abbrev pub drawnLength : Form → Record → Size → ℕ
-drawnLength form rec size = lengthOf form (gridFor rec size)
+abbrev pub drawnLength : Form → Record → Profile → ℕ
+drawnLength form rec profile = lengthOf form (gridFor rec profile)
 
 -- The answer, the refusals in the order of the picture's. `room` is the length of the output.
-abbrev pub answering : Form → Record → List ℕ → Size → ℕ → Answer
-answering form rec mem size room = answerFor rec mem size (drawnLength form rec size) room
+abbrev pub answering : Form → Record → List ℕ → Profile → ℕ → Answer
+answering form rec mem profile room = answerFor rec mem profile (drawnLength form rec profile) room
 
 -- What is told: the answer, and the bytes of the drawing, 0 on a refusal.
 abbrev pub telling : Answer → ℕ → Written
 telling answer long = record { answer = answer; length = cond (isRefusal answer) 0 long }
 
 -- What `draw` promises: what is told, its number in the table, and every byte of the output.
-pub record Drawn (form : Form) (rec : Record) (mem : List ℕ) (size : Size) (lit : Bool) (before : List ℕ) (returned : Written)
-    (after : List ℕ) : Type 0 where
-  pub told : returned ≡ telling (answering form rec mem size (length before)) (drawnLength form rec size)
-  pub number : numberOf (returned .answer) ≡ numberOf (answering form rec mem size (length before))
+pub record Drawn (form : Form) (rec : Record) (mem : List ℕ) (profile : Profile) (lit : Bool) (before : List ℕ)
+    (returned : Written) (after : List ℕ) : Type 0 where
+  pub told : returned ≡ telling (answering form rec mem profile (length before)) (drawnLength form rec profile)
+  pub number : numberOf (returned .answer) ≡ numberOf (answering form rec mem profile (length before))
   pub out :
       after
-      ≡ outputLeft (answering form rec mem size (length before))
-      (drawnByte form (dotsOf rec mem size lit) mem rec (gridFor rec size)) (drawnLength form rec size) before
+      ≡ outputLeft (answering form rec mem profile (length before))
+      (drawnByte form (dotsOf rec mem profile lit) mem rec (gridFor rec profile)) (drawnLength form rec profile) before
 
 -- Of a picture that was taken 11 is left to be given.
 abbrev pub roomAnswer : Form → Grid → ℕ → Answer

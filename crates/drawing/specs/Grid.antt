@@ -36,5 +36,5 @@ isLit dots grid x y = not (isBetween grid x y) && dotOf (getD dots (byteOf grid 
 -- What the functions that draw lean on: no panel is larger.
 pub record Small (grid : Grid) : Type 0 where
   pub columns : grid .size .columns ≤ 40
-  pub lines : grid .size .lines ≤ 2
+  pub lines : grid .size .lines ≤ 4
   pub rows : grid .rows ≤ tallest

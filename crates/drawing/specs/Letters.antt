@@ -10,10 +10,12 @@ use Rattle.controller.specs.declared.cells.Counter.{Counter}
 use Rattle.controller.specs.declared.«record».Record.{Record}
 use Rattle.dots.specs.declared.geometry.Shown.{Shown}
 use Rattle.dots.specs.declared.geometry.Shown.the-variants.{Cell, Undriven}
-use Rattle.dots.specs.declared.geometry.Size.{Size}
-use Rattle.dots.specs.Geometry.{cellAt}
+use Rattle.dots.specs.declared.panel.Profile.{Profile}
+use Rattle.dots.specs.declared.panel.Size.{Size}
+use Rattle.dots.specs.Geometry.{shownAt}
 use Rattle.dots.specs.Picture.{isOn}
 use Rattle.lines.specs.Digits.{newline}
+use Rattle.drawing.specs.declared.grid.Grid.{Grid}
 
 -- The letter of a code: `~` for a pattern, 00h to 0Fh, since no shape of the font has it; 20h to 7Dh as ASCII has them, so that
 -- 5Ch, on the glass a yen sign, is `\`; and a blank for the codes that the font leaves blank.
@@ -30,9 +32,9 @@ letterShown mem (Cell cell) = letterFor (getD mem cell 0)
 letterShown mem Undriven = code " "
 
 -- The letter at a line and a column of the glass. D=0: a blank.
-unfoldable pub letterAt : List ℕ → Record → ℕ → ℕ → ℕ
-letterAt mem rec line column =
-    cond (rec .control .d) (letterShown mem (cellAt (rec .function .n) (rec .shift) line column)) (code " ")
+unfoldable pub letterAt : List ℕ → Record → Profile → ℕ → ℕ → ℕ
+letterAt mem rec profile line column =
+    cond (rec .control .d) (letterShown mem (shownAt (rec .function .n) (rec .shift) profile line column)) (code " ")
 
 -- The counter is on the cell that a position shows.
 abbrev pub counterShown : Counter → Shown → Bool
@@ -40,9 +42,9 @@ counterShown counter (Cell cell) = isOn counter cell
 counterShown counter Undriven = false
 
 -- Under a line and a column of the glass: `^` where the counter is on the cell shown there, whatever D, C and B are.
-unfoldable pub caretAt : Record → ℕ → ℕ → ℕ
-caretAt rec line column =
-    cond (counterShown (rec .counter) (cellAt (rec .function .n) (rec .shift) line column)) (code "^") (code " ")
+unfoldable pub caretAt : Record → Profile → ℕ → ℕ → ℕ
+caretAt rec profile line column =
+    cond (counterShown (rec .counter) (shownAt (rec .function .n) (rec .shift) profile line column)) (code "^") (code " ")
 
 -- Rows of letters and rows for the counter's place take turns, a row of letters first.
 abbrev pub isLetters : ℕ → Bool
@@ -53,19 +55,20 @@ abbrev pub sideAt : ℕ → ℕ
 sideAt y = cond (isLetters y) (code "|") (code " ")
 
 -- A column of the glass in a row of the text.
-unfoldable pub columnAt : List ℕ → Record → ℕ → ℕ → ℕ
-columnAt mem rec column y = cond (isLetters y) (letterAt mem rec (y / 2) column) (caretAt rec (y / 2) column)
+unfoldable pub columnAt : List ℕ → Record → Profile → ℕ → ℕ → ℕ
+columnAt mem rec profile column y =
+    cond (isLetters y) (letterAt mem rec profile (y / 2) column) (caretAt rec profile (y / 2) column)
 
 -- A row of the text from the glass's first column on: its columns, its side, and a newline.
-unfoldable pub fromColumn : List ℕ → Record → Size → ℕ → ℕ → ℕ
-fromColumn mem rec size column y =
-    cond (ltb column (size .columns)) (columnAt mem rec column y)
-    (cond (eqb column (size .columns)) (sideAt y)
+unfoldable pub fromColumn : List ℕ → Record → Grid → ℕ → ℕ → ℕ
+fromColumn mem rec grid column y =
+    cond (ltb column (grid .size .columns)) (columnAt mem rec (grid .profile) column y)
+    (cond (eqb column (grid .size .columns)) (sideAt y)
     newline)
 
 -- The byte of the text at a place of a row.
-unfoldable pub lettersAt : List ℕ → Record → Size → ℕ → ℕ → ℕ
-lettersAt mem rec size x y = cond (eqb x 0) (sideAt y) (fromColumn mem rec size (x - 1) y)
+unfoldable pub lettersAt : List ℕ → Record → Grid → ℕ → ℕ → ℕ
+lettersAt mem rec grid x y = cond (eqb x 0) (sideAt y) (fromColumn mem rec grid (x - 1) y)
 
 -- A row of the text: the columns of the glass, two sides, and the end of the line.
 unfoldable pub lettersWidth : Size → ℕ

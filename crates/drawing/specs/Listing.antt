@@ -7,7 +7,7 @@ use Prim.Native.Char.{code}
 use Prim.Native.Nat.{ℕ, _+_, _-_, _*_, _/_, _%_}
 use lib.Dec.{ltb, eqb}
 use lib.ListN.{getD}
-use Rattle.dots.specs.declared.geometry.Size.{Size}
+use Rattle.dots.specs.declared.panel.Profile.{Profile}
 use Rattle.dots.specs.Geometry.{isShown}
 use Rattle.lines.specs.Digits.{digit, newline}
 use Rattle.lines.specs.Text.{bytesOf}
@@ -15,8 +15,8 @@ use Rattle.drawing.specs.Letters.{letterFor}
 use Rattle.drawing.specs.Numbers.{twoWide}
 
 -- The cell at this place of the memory is a display cell that the glass does not show.
-unfoldable pub isSpare : Bool → ℕ → Size → ℕ → Bool
-isSpare n shift size place = ltb place 80 && not (isShown n shift size place)
+unfoldable pub isSpare : Bool → ℕ → Profile → ℕ → Bool
+isSpare n shift profile place = ltb place 80 && not (isShown n shift profile place)
 
 -- `display` and the first cell of the line.
 abbrev pub displayLabel : ℕ → List ℕ
@@ -43,8 +43,8 @@ cellChar spare byte at =
     (digit (byte % 16))))
 
 -- The same of the cell at this place of the memory.
-abbrev pub cellField : List ℕ → Bool → ℕ → Size → ℕ → ℕ → ℕ
-cellField mem n shift size place at = cellChar (isSpare n shift size place) (getD mem place 0) at
+abbrev pub cellField : List ℕ → Bool → ℕ → Profile → ℕ → ℕ → ℕ
+cellField mem n shift profile place at = cellChar (isSpare n shift profile place) (getD mem place 0) at
 
 -- The letters of a line's sixteen cells between bars, two blanks before them.
 unfoldable pub lettersField : List ℕ → ℕ → ℕ → ℕ
@@ -59,11 +59,11 @@ unfoldable pub textColumn : List ℕ → ℕ → ℕ → ℕ
 textColumn mem line at = cond (ltb line 5) (lettersField mem line at) (code " ")
 
 -- The byte of the listing at a column of a line: ten bytes of label, sixteen cells of four bytes, the letters, and a newline.
-unfoldable pub listingAt : List ℕ → Bool → ℕ → Size → ℕ → ℕ → ℕ
-listingAt mem n shift size x line =
+unfoldable pub listingAt : List ℕ → Bool → ℕ → Profile → ℕ → ℕ → ℕ
+listingAt mem n shift profile x line =
     cond (eqb x 94) newline
     (cond (ltb x 10) (getD (labelFor line) x 0)
-    (cond (ltb x 74) (cellField mem n shift size (line * 16 + (x - 10) / 4) ((x - 10) % 4))
+    (cond (ltb x 74) (cellField mem n shift profile (line * 16 + (x - 10) / 4) ((x - 10) % 4))
     (textColumn mem line (x - 74))))
 
 -- A line of the listing: ten bytes of label, sixteen cells of four bytes, twenty bytes of letters, and a newline.

@@ -1,7 +1,7 @@
 -- What is proved of the drawings: each theorem is a type here, and its proof stands in proofs/Theorems.antt or, of the letters,
 -- in proofs/Positions.antt.
 -- Assumes nothing.
-use mathlib.Core.Bool.{Bool, true}
+use mathlib.Core.Bool.{Bool, true, false}
 use mathlib.Core.List.{List}
 use mathlib.Core.Logic.{_↔_}
 use mathlib.Core.Path.{_≡_}
@@ -15,10 +15,13 @@ use Rattle.controller.specs.declared.«record».Record.{Record}
 use Rattle.controller.specs.Answers.{isRefusal, numberOf, Row, Tells}
 use Rattle.controller.specs.Cells.{addressOf, onCell}
 use Rattle.dots.specs.declared.geometry.Shown.the-variants.{Cell}
-use Rattle.dots.specs.declared.geometry.Size.{Size}
+use Rattle.dots.specs.declared.panel.Profile.{Profile}
+use Rattle.dots.specs.declared.panel.Profile.the-variants.{FourRows}
+use Rattle.dots.specs.declared.panel.Size.{Size}
 use Rattle.dots.specs.Font.{font}
-use Rattle.dots.specs.Geometry.{cellAt, height, pictureRoom}
-use Rattle.dots.specs.Picture.{answered, dotsAt}
+use Rattle.dots.specs.Geometry.{height, pictureRoom, shownAt}
+use Rattle.dots.specs.Panel.{sizeOf}
+use Rattle.dots.specs.Picture.{answered, dotsOn}
 use Rattle.dots.specs.Theorems.{rowsFor}
 use Rattle.lines.specs.declared.writer.Written.{Written}
 use Rattle.drawing.specs.declared.drawing.Form.{Form}
@@ -26,6 +29,7 @@ use Rattle.drawing.specs.declared.drawing.Form.the-variants.{Blocks, Dot
 use Rattle.drawing.specs.declared.grid.Grid.{Grid}
 use Rattle.drawing.specs.Grid.{dotOf, isLit}
 use Rattle.drawing.specs.Letters.{letterFor}
+use Rattle.drawing.specs.Listing.{isSpare}
 use Rattle.drawing.specs.Drawing.{Drawn, answering, dotsOf, drawnByte, gridFor}
 use Rattle.drawing.specs.State.{addressShown}
 
@@ -33,11 +37,12 @@ use Rattle.drawing.specs.State.{addressShown}
 -- is, the dots counted from the left from 1.
 abbrev pub DotsInPlace : Type 0
 DotsInPlace =
-    (rec : Record) (mem : List ℕ) (size : Size) (lit : Bool) (line row column dot : ℕ)
-    → answered rec mem size pictureRoom ≡ Done
-    → line < size .lines → row < height (rec .function) → column < size .columns → 1 ≤ dot → dot ≤ 5
-    → isLit (dotsOf rec mem size lit) (gridFor rec size) (column * 6 + dot) (line * (height (rec .function) + 1) + (row + 1))
-    ≡ dotOf (dotsAt font rec mem lit line row column) dot
+    (rec : Record) (mem : List ℕ) (profile : Profile) (lit : Bool) (line row column dot : ℕ)
+    → answered rec mem profile pictureRoom ≡ Done
+    → line < sizeOf profile .lines → row < height (rec .function) → column < sizeOf profile .columns → 1 ≤ dot → dot ≤ 5
+    → isLit (dotsOf rec mem profile lit) (gridFor rec profile)
+    (column * 6 + dot) (line * (height (rec .function) + 1) + (row + 1))
+    ≡ dotOf (dotsOn font rec mem lit profile line row column) dot
 
 -- The letters of the codes that ASCII and the font both have are ASCII's.
 abbrev pub LettersKept : Type 0
@@ -49,14 +54,14 @@ abbrev pub LettersInPlace : Type 0
 LettersInPlace =
     (dots mem : List ℕ) (rec : Record) (grid : Grid) (line column cell : ℕ)
     → line < grid .size .lines → column < grid .size .columns → rec .control .d ≡ true
-    → cellAt (rec .function .n) (rec .shift) line column ≡ Cell cell
+    → shownAt (rec .function .n) (rec .shift) (grid .profile) line column ≡ Cell cell
     → drawnByte Letters dots mem rec grid (line * 2 * (grid .size .columns + 3) + (column + 1)) ≡ letterFor (getD mem cell 0)
 
 -- This position of the glass shows the counter's cell.
-pub record ShowsCounter (rec : Record) (line column : ℕ) : Type 0 where
+pub record ShowsCounter (rec : Record) (profile : Profile) (line column : ℕ) : Type 0 where
   pub cell : ℕ
   pub counter : rec .counter ≡ Display cell
-  pub shown : cellAt (rec .function .n) (rec .shift) line column ≡ Cell cell
+  pub shown : shownAt (rec .function .n) (rec .shift) profile line column ≡ Cell cell
 
 -- A caret stands in the row below it exactly where a position shows the counter's cell.
 abbrev pub CaretInPlace : Type 0
@@ -64,7 +69,11 @@ CaretInPlace =
     (dots mem : List ℕ) (rec : Record) (grid : Grid) (line column : ℕ)
     → line < grid .size .lines → column < grid .size .columns
     → (drawnByte Letters dots mem rec grid ((line * 2 + 1) * (grid .size .columns + 3) + (column + 1)) ≡ code "^")
-    ↔ ShowsCounter rec line column
+    ↔ ShowsCounter rec (grid .profile) line column
+
+-- With N=1 no cell is spare on the 20 x 4 panel, at any shift: the listing marks none.
+abbrev pub NoneSpare : Type 0
+NoneSpare = (shift place : ℕ) → isSpare true shift FourRows place ≡ false
 
 -- The address that the state tells is the counter's own, which a status read gives.
 abbrev pub AddressTold : Type 0
@@ -81,30 +90,32 @@ bytesFor Bitmap size = 13 + (size .columns * 6 + 1) * ((size .lines * 9 + 1) * 8
 bytesFor Cells size = 900 + 136
 
 -- The rows of draw.
-abbrev pub drawRows : Form → Record → List ℕ → Size → ℕ → List Row
-drawRows form rec mem size room = rowsFor rec mem size (bytesFor form size) room
+abbrev pub drawRows : Form → Record → List ℕ → Profile → ℕ → List Row
+drawRows form rec mem profile room = rowsFor rec mem profile (bytesFor form (sizeOf profile)) room
 
 -- Each number is given exactly where its row applies and none before it in the order.
 abbrev pub DrawAnswers : Type 0
 DrawAnswers =
-    (form : Form) (rec : Record) (mem : List ℕ) (size : Size) (room : ℕ)
-    → Tells (numberOf (answering form rec mem size room)) (drawRows form rec mem size room)
+    (form : Form) (rec : Record) (mem : List ℕ) (profile : Profile) (room : ℕ)
+    → Tells (numberOf (answering form rec mem profile room)) (drawRows form rec mem profile room)
 
 -- A refusal tells length 0 and leaves the output as found.
 abbrev pub DrawRefusals : Type 0
 DrawRefusals =
-    (form : Form) (rec : Record) (mem : List ℕ) (size : Size) (lit : Bool) (before : List ℕ) (returned : Written) (after : List ℕ)
-    → Drawn form rec mem size lit before returned after → isRefusal (returned .answer) ≡ true
+    (form : Form) (rec : Record) (mem : List ℕ) (profile : Profile) (lit : Bool) (before : List ℕ)
+    (returned : Written) (after : List ℕ)
+    → Drawn form rec mem profile lit before returned after → isRefusal (returned .answer) ≡ true
     → (returned .length ≡ 0) × (after ≡ before)
 
 -- What is told to be drawn lies within the output.
 abbrev pub DrawFits : Type 0
 DrawFits =
-    (form : Form) (rec : Record) (mem : List ℕ) (size : Size) (lit : Bool) (before : List ℕ) (returned : Written) (after : List ℕ)
-    → Drawn form rec mem size lit before returned after → returned .length ≤ length before
+    (form : Form) (rec : Record) (mem : List ℕ) (profile : Profile) (lit : Bool) (before : List ℕ)
+    (returned : Written) (after : List ℕ)
+    → Drawn form rec mem profile lit before returned after → returned .length ≤ length before
 
 -- No second answer fits: two results that both meet the promise are one, and so are the outputs.
 abbrev pub OneDrawing : Type 0
 OneDrawing =
-    (form : Form) (rec : Record) (mem : List ℕ) (size : Size) (lit : Bool) (before : List ℕ) (a b : Written) (x y : List ℕ)
-    → Drawn form rec mem size lit before a x → Drawn form rec mem size lit before b y → (a ≡ b) × (x ≡ y)
+    (form : Form) (rec : Record) (mem : List ℕ) (profile : Profile) (lit : Bool) (before : List ℕ) (a b : Written) (x y : List ℕ)
+    → Drawn form rec mem profile lit before a x → Drawn form rec mem profile lit before b y → (a ≡ b) × (x ≡ y)

@@ -43,7 +43,7 @@ pub fn bitmap_head(grid: Grid) -> [u8; 13]
 
 // Eight pixels: the place in this column of the grid, at this row of pixels.
 pub fn pixels_at(dots: &[u8], grid: Grid, x: usize, y: usize) -> u8
-    requires { ⌜ (Small grid) × (x ≤ 255) × (y ≤ 255) ⌝ }
+    requires { ⌜ (Small grid) × (x ≤ 255) × (y ≤ 511) ⌝ }
     ensures { λ r. ⌜ r ≡ pixelsAt (now (dots .entry)) grid x y ⌝ }
 {
     if y % 8 == 7 {

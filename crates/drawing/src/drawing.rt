@@ -27,9 +27,10 @@ use controller::Answer;
 use controller::Record;
 use controller::is_done;
 use dots::PICTURE_ROOM;
-use dots::Size;
+use dots::Profile;
 use dots::picture;
 use dots::rows_of;
+use dots::size_of;
 use lines::Written;
 
 // The length of the bitmap's head.
@@ -120,13 +121,13 @@ fn blocks_byte(dots: &[u8], rec: Record, grid: Grid, place: usize) -> u8
 // The letters row by row, then the state.
 fn letters_byte(memory: &[u8], rec: Record, grid: Grid, place: usize) -> u8
     requires { ⌜ Small grid ⌝ }
-    ensures { λ r. ⌜ r ≡ lettersByte (now (memory .entry)) rec (grid .size) place ⌝ }
+    ensures { λ r. ⌜ r ≡ lettersByte (now (memory .entry)) rec grid place ⌝ }
 {
     let length = letters_length(grid);
     if place < length {
         let size = grid.size;
         let width = letters_width(size);
-        return letters_at(memory, rec, size, place % width, place / width);
+        return letters_at(memory, rec, grid, place % width, place / width);
     }
     state_byte(rec, place - length)
 }
@@ -152,15 +153,15 @@ fn bitmap_byte(dots: &[u8], grid: Grid, place: usize) -> u8
 }
 
 // The cells line by line, then the state.
-fn listing_byte(memory: &[u8], rec: Record, size: Size, place: usize) -> u8
-    ensures { λ r. ⌜ r ≡ listingByte (now (memory .entry)) rec size place ⌝ }
+fn listing_byte(memory: &[u8], rec: Record, profile: Profile, place: usize) -> u8
+    ensures { λ r. ⌜ r ≡ listingByte (now (memory .entry)) rec profile place ⌝ }
 {
     if place < LISTING {
         return listing_at(
             memory,
             rec.function.n,
             rec.shift,
-            size,
+            profile,
             place % LISTING_WIDTH,
             place / LISTING_WIDTH,
         );
@@ -169,26 +170,26 @@ fn listing_byte(memory: &[u8], rec: Record, size: Size, place: usize) -> u8
 }
 
 // The legend, then the listing.
-fn cells_byte(memory: &[u8], rec: Record, size: Size, place: usize) -> u8
-    ensures { λ r. ⌜ r ≡ cellsByte (now (memory .entry)) rec size place ⌝ }
+fn cells_byte(memory: &[u8], rec: Record, profile: Profile, place: usize) -> u8
+    ensures { λ r. ⌜ r ≡ cellsByte (now (memory .entry)) rec profile place ⌝ }
 {
     if place < LEGEND {
         return legend_at(place);
     }
-    listing_byte(memory, rec, size, place - LEGEND)
+    listing_byte(memory, rec, profile, place - LEGEND)
 }
 
 fn drawn_byte(form: Form, dots: &[u8], memory: &[u8], rec: Record, grid: Grid, place: usize) -> u8
     requires { ⌜ (Small grid) × (place < lengthOf form grid) ⌝ }
     ensures { λ r. ⌜ r ≡ drawnByte form (now (dots .entry)) (now (memory .entry)) rec grid place ⌝ }
 {
-    let size = grid.size;
+    let profile = grid.profile;
     match form {
         Form::Dots => frame_byte(dots, rec, grid, place),
         Form::Blocks => blocks_byte(dots, rec, grid, place),
         Form::Letters => letters_byte(memory, rec, grid, place),
         Form::Bitmap => bitmap_byte(dots, grid, place),
-        Form::Cells => cells_byte(memory, rec, size, place),
+        Form::Cells => cells_byte(memory, rec, profile, place),
     }
 }
 
@@ -248,20 +249,21 @@ pub fn draw(
     form: Form,
     rec: Record,
     memory: &[u8],
-    size: Size,
+    profile: Profile,
     lit: bool,
     out: &mut [u8],
 ) -> Written
-    ensures { λ r. ⌜ DrawPromise form rec (now (memory .entry)) size lit (now (out .entry)) r (now (out .exit)) ⌝ }
+    ensures { λ r. ⌜ DrawPromise form rec (now (memory .entry)) profile lit (now (out .entry)) r (now (out .exit)) ⌝ }
 {
     let mut dots = [0u8; PICTURE_ROOM];
-    let answer = picture(rec, memory, size, lit, &mut dots);
+    let answer = picture(rec, memory, profile, lit, &mut dots);
     if !is_done(answer) {
         return refused(answer);
     }
     let function = rec.function;
     let grid = Grid {
-        size,
+        profile,
+        size: size_of(profile),
         rows: rows_of(function),
     };
     draw_taken(form, &dots, memory, rec, grid, out)

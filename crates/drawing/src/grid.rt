@@ -5,10 +5,12 @@ ghost use mathlib.Core.Path.{_≡_};
 ghost use Prim.Native.Nat.{_≤_};
 ghost use lib.ListN.{getD};
 ghost use Rattle.drawing.specs.Grid.{Small, byteOf, dotOf, isBetween, isLit, lastX, lastY};
+use dots::Profile;
 use dots::Size;
 
-// What is drawn: the panel's size, and rows of dots to a character.
+// What is drawn: the panel, its size, and rows of dots to a character.
 pub struct Grid {
+    pub profile: Profile,
     pub size: Size,
     pub rows: usize,
 }

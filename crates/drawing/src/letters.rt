@@ -1,9 +1,7 @@
 // The glass as plain text: a row of letters for each line of the glass, and under it a row that marks the counter's place.
 ghost use mathlib.Core.Path.{_≡_};
-ghost use Prim.Native.Nat.{_+_, _*_, _%_, _≤_};
-ghost use lib.Dec.{ltb};
-ghost use Rattle.controller.specs.Cells.{lineLength};
-ghost use Rattle.dots.specs.Geometry.{cellAt, drivenLines};
+ghost use Prim.Native.Nat.{_≤_};
+ghost use Rattle.dots.specs.Geometry.{shownAt};
 ghost use Rattle.dots.specs.Picture.{isOn};
 ghost use Rattle.drawing.specs.Grid.{Small};
 ghost use Rattle.drawing.specs.Letters.{caretAt, columnAt, counterShown, fromColumn, letterAt, letterFor, letterShown};
@@ -12,8 +10,10 @@ use crate::grid::Grid;
 use crate::grid::byte_in;
 use controller::Counter;
 use controller::Record;
-use controller::line_length;
+use dots::Profile;
+use dots::Shown;
 use dots::Size;
+use dots::shown_at;
 
 // The letter of a code: `~` for a pattern, a blank for a code that the font leaves blank.
 pub fn letter_for(code: u8) -> u8
@@ -31,43 +31,31 @@ pub fn letter_for(code: u8) -> u8
     b' '
 }
 
-// Whether N drives this line of the glass.
-fn is_driven(n: bool, line: usize) -> bool
-    ensures { λ r. ⌜ r ≡ ltb line (drivenLines n) ⌝ }
+// What a position reads as, by what it shows.
+fn letter_shown(memory: &[u8], shown: Shown) -> u8
+    ensures { λ r. ⌜ r ≡ letterShown (now (memory .entry)) shown ⌝ }
 {
-    if n {
-        return line < 2;
+    match shown {
+        Shown::Cell(cell) => letter_for(byte_in(memory, cell)),
+        Shown::Undriven => b' ',
     }
-    line < 1
 }
 
-// The cell that a position of a driven line shows.
-fn cell_in_line(n: bool, shift: u8, line: usize, column: usize) -> usize
+// What a line and a column of the glass show.
+fn shown_on(rec: Record, profile: Profile, line: usize, column: usize) -> Shown
     requires { ⌜ (line ≤ 255) × (column ≤ 255) ⌝ }
-    ensures { λ r. ⌜ r ≡ line * lineLength n + (column + shift) % lineLength n ⌝ }
+    ensures { λ r. ⌜ r ≡ shownAt (rec .function .n) (rec .shift) profile line column ⌝ }
 {
-    let length = line_length(n) as usize;
-    line * length + (column + shift as usize) % length
-}
-
-// What a position reads as.
-fn letter_shown(memory: &[u8], n: bool, shift: u8, line: usize, column: usize) -> u8
-    requires { ⌜ (line ≤ 255) × (column ≤ 255) ⌝ }
-    ensures { λ r. ⌜ r ≡ letterShown (now (memory .entry)) (cellAt n shift line column) ⌝ }
-{
-    if is_driven(n, line) {
-        return letter_for(byte_in(memory, cell_in_line(n, shift, line, column)));
-    }
-    b' '
+    shown_at(rec.function.n, rec.shift, profile, line as u8, column as u8)
 }
 
 // The letter at a line and a column of the glass.
-fn letter_at(memory: &[u8], rec: Record, line: usize, column: usize) -> u8
+fn letter_at(memory: &[u8], rec: Record, profile: Profile, line: usize, column: usize) -> u8
     requires { ⌜ (line ≤ 255) × (column ≤ 255) ⌝ }
-    ensures { λ r. ⌜ r ≡ letterAt (now (memory .entry)) rec line column ⌝ }
+    ensures { λ r. ⌜ r ≡ letterAt (now (memory .entry)) rec profile line column ⌝ }
 {
     if rec.control.d {
-        return letter_shown(memory, rec.function.n, rec.shift, line, column);
+        return letter_shown(memory, shown_on(rec, profile, line, column));
     }
     b' '
 }
@@ -82,24 +70,23 @@ fn is_on(counter: Counter, cell: usize) -> bool
     }
 }
 
-// Whether the counter is on the cell that a position shows.
-fn counter_shown(counter: Counter, n: bool, shift: u8, line: usize, column: usize) -> bool
-    requires { ⌜ (line ≤ 255) × (column ≤ 255) ⌝ }
-    ensures { λ r. ⌜ r ≡ counterShown counter (cellAt n shift line column) ⌝ }
+// Whether the counter is on the cell that is shown.
+fn counter_shown(counter: Counter, shown: Shown) -> bool
+    ensures { λ r. ⌜ r ≡ counterShown counter shown ⌝ }
 {
-    if is_driven(n, line) {
-        return is_on(counter, cell_in_line(n, shift, line, column));
+    match shown {
+        Shown::Cell(cell) => is_on(counter, cell),
+        Shown::Undriven => false,
     }
-    false
 }
 
 // What stands under a line and a column of the glass.
-fn caret_at(rec: Record, line: usize, column: usize) -> u8
+fn caret_at(rec: Record, profile: Profile, line: usize, column: usize) -> u8
     requires { ⌜ (line ≤ 255) × (column ≤ 255) ⌝ }
-    ensures { λ r. ⌜ r ≡ caretAt rec line column ⌝ }
+    ensures { λ r. ⌜ r ≡ caretAt rec profile line column ⌝ }
 {
     let counter = rec.counter;
-    if counter_shown(counter, rec.function.n, rec.shift, line, column) {
+    if counter_shown(counter, shown_on(rec, profile, line, column)) {
         return b'^';
     }
     b' '
@@ -116,39 +103,40 @@ fn side_at(y: usize) -> u8
 }
 
 // A column of the glass in a row of the text.
-fn column_at(memory: &[u8], rec: Record, column: usize, y: usize) -> u8
+fn column_at(memory: &[u8], rec: Record, profile: Profile, column: usize, y: usize) -> u8
     requires { ⌜ (column ≤ 255) × (y ≤ 255) ⌝ }
-    ensures { λ r. ⌜ r ≡ columnAt (now (memory .entry)) rec column y ⌝ }
+    ensures { λ r. ⌜ r ≡ columnAt (now (memory .entry)) rec profile column y ⌝ }
 {
     if y % 2 == 0 {
-        return letter_at(memory, rec, y / 2, column);
+        return letter_at(memory, rec, profile, y / 2, column);
     }
-    caret_at(rec, y / 2, column)
+    caret_at(rec, profile, y / 2, column)
 }
 
 // A row of the text from the glass's first column on.
-fn from_column(memory: &[u8], rec: Record, size: Size, column: usize, y: usize) -> u8
+fn from_column(memory: &[u8], rec: Record, grid: Grid, column: usize, y: usize) -> u8
     requires { ⌜ (column ≤ 255) × (y ≤ 255) ⌝ }
-    ensures { λ r. ⌜ r ≡ fromColumn (now (memory .entry)) rec size column y ⌝ }
+    ensures { λ r. ⌜ r ≡ fromColumn (now (memory .entry)) rec grid column y ⌝ }
 {
-    if column < size.columns as usize {
-        return column_at(memory, rec, column, y);
+    let profile = grid.profile;
+    if column < grid.size.columns as usize {
+        return column_at(memory, rec, profile, column, y);
     }
-    if column == size.columns as usize {
+    if column == grid.size.columns as usize {
         return side_at(y);
     }
     b'\n'
 }
 
 // The byte of the text at a place of a row.
-pub fn letters_at(memory: &[u8], rec: Record, size: Size, x: usize, y: usize) -> u8
+pub fn letters_at(memory: &[u8], rec: Record, grid: Grid, x: usize, y: usize) -> u8
     requires { ⌜ (x ≤ 255) × (y ≤ 255) ⌝ }
-    ensures { λ r. ⌜ r ≡ lettersAt (now (memory .entry)) rec size x y ⌝ }
+    ensures { λ r. ⌜ r ≡ lettersAt (now (memory .entry)) rec grid x y ⌝ }
 {
     if x == 0 {
         return side_at(y);
     }
-    from_column(memory, rec, size, x - 1, y)
+    from_column(memory, rec, grid, x - 1, y)
 }
 
 pub fn letters_width(size: Size) -> usize

@@ -8,16 +8,16 @@ ghost use Rattle.drawing.specs.Listing.{lettersField, patternLabel, text
 use crate::grid::byte_in;
 use crate::letters::letter_for;
 use crate::numbers::two_wide;
-use dots::Size;
+use dots::Profile;
 use dots::is_shown;
 use lines::hex_digit;
 
 // Whether the cell at this place of the memory is a display cell that the glass does not show.
-fn is_spare(n: bool, shift: u8, size: Size, place: usize) -> bool
-    ensures { λ r. ⌜ r ≡ isSpare n shift size place ⌝ }
+fn is_spare(n: bool, shift: u8, profile: Profile, place: usize) -> bool
+    ensures { λ r. ⌜ r ≡ isSpare n shift profile place ⌝ }
 {
     if place < 80 {
-        return !is_shown(n, shift, size, place as u8);
+        return !is_shown(n, shift, profile, place as u8);
     }
     false
 }
@@ -95,10 +95,14 @@ fn cell_char(spare: bool, byte: u8, at: usize) -> u8
 }
 
 // A byte of a cell's four.
-fn cell_field(memory: &[u8], n: bool, shift: u8, size: Size, place: usize, at: usize) -> u8
-    ensures { λ r. ⌜ r ≡ cellField (now (memory .entry)) n shift size place at ⌝ }
+fn cell_field(memory: &[u8], n: bool, shift: u8, profile: Profile, place: usize, at: usize) -> u8
+    ensures { λ r. ⌜ r ≡ cellField (now (memory .entry)) n shift profile place at ⌝ }
 {
-    cell_char(is_spare(n, shift, size, place), byte_in(memory, place), at)
+    cell_char(
+        is_spare(n, shift, profile, place),
+        byte_in(memory, place),
+        at,
+    )
 }
 
 // The letters of a line's sixteen cells between bars, two blanks before them.
@@ -130,9 +134,9 @@ fn text_column(memory: &[u8], line: usize, at: usize) -> u8
 }
 
 // The byte of the listing at a column of a line; past the letters is the end of the line.
-pub fn listing_at(memory: &[u8], n: bool, shift: u8, size: Size, x: usize, line: usize) -> u8
+pub fn listing_at(memory: &[u8], n: bool, shift: u8, profile: Profile, x: usize, line: usize) -> u8
     requires { ⌜ (x ≤ 255) × (line ≤ 255) ⌝ }
-    ensures { λ r. ⌜ r ≡ listingAt (now (memory .entry)) n shift size x line ⌝ }
+    ensures { λ r. ⌜ r ≡ listingAt (now (memory .entry)) n shift profile x line ⌝ }
 {
     if x == 94 {
         return b'\n';
@@ -143,7 +147,7 @@ pub fn listing_at(memory: &[u8], n: bool, shift: u8, size: Size, x: usize, line:
     }
     if x < 74 {
         let place = line * 16 + (x - 10) / 4;
-        return cell_field(memory, n, shift, size, place, (x - 10) % 4);
+        return cell_field(memory, n, shift, profile, place, (x - 10) % 4);
     }
     text_column(memory, line, x - 74)
 }

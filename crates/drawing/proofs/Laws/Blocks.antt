@@ -30,10 +30,10 @@ module _ (grid : Grid) (small : Small grid) where
   unfolding blocksWidth
   blocks-width-most = omega (arith, small .columns)
 
-  pub blocks-product : blocksWidth grid * (lastY grid / 2 + 2) ≤ 5138
-  blocks-product = product (blocksWidth grid) (lastY grid / 2 + 2) 367 14 blocks-width-most (omega (arith, last-y-most grid small))
+  pub blocks-product : blocksWidth grid * (lastY grid / 2 + 2) ≤ 9542
+  blocks-product = product (blocksWidth grid) (lastY grid / 2 + 2) 367 26 blocks-width-most (omega (arith, last-y-most grid small))
 
-  pub blocks-most : blocksLength grid ≤ 5138
+  pub blocks-most : blocksLength grid ≤ 9542
   unfolding blocksLength
   blocks-most = blocks-product
 

@@ -41,9 +41,9 @@ in-row place width rows some inside = div-lt-iff-lt-mul some .1 (rw (mul-comm wi
 pub row-inside : (width row rows place : ℕ) → row < rows → place < width → row * width + place < width * rows
 row-inside width row rows place r p = rw (mul-comm width rows) (omega (arith, row-ends width row rows r))
 
-pub last-y-most : (grid : Grid) → Small grid → lastY grid ≤ 24
+pub last-y-most : (grid : Grid) → Small grid → lastY grid ≤ 48
 unfolding lastY
-last-y-most grid small = product (grid .size .lines) (grid .rows + 1) 2 12 (small .lines) (let r = small .rows in omega arith)
+last-y-most grid small = product (grid .size .lines) (grid .rows + 1) 4 12 (small .lines) (let r = small .rows in omega arith)
 
 pub last-x-most : (grid : Grid) → Small grid → lastX grid ≤ 240
 unfolding lastX

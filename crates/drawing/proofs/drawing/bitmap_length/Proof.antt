@@ -1,4 +1,4 @@
--- `drawing::drawing::bitmap_length` meets its contract: the pixels of a small grid are at most 48,200 bytes.
+-- `drawing::drawing::bitmap_length` meets its contract: the pixels of a small grid are at most 94,472 bytes.
 -- Assumes nothing.
 use Rattle.drawing.specs.Drawing.{bitmapLength}
 use native.Mathlib.Omega.{arith}

@@ -30,6 +30,9 @@ returns c =
     let not-done = sym (asked .is-done .ensures) ∙ not-true _ (c .before .if1 .taken) in
     rw (c .refused .ensures, told) (refused-drawn _ _ _ _ _ _ (rw told at not-done))
 
+size-of-requires : tie.Need-size-of-requires
+size-of-requires c κs = search needs
+
 rows-of-requires : tie.Need-rows-of-requires
 rows-of-requires c κs = search needs
 
@@ -38,12 +41,12 @@ slice-aggregate-draw-taken c = search needs
 
 draw-taken-requires : tie.Need-draw-taken-requires
 draw-taken-requires c κs =
-    let asked = c .before .before .before .before .before in
+    let asked = c .before .before .before .before .before .before in
     let taken = asked .before .before in
     let start = taken .before .before .before .before in
-    let done = sym (asked .is-done .ensures) ∙ not-false _ (c .before .before .before .before .if1 .left) in
-    let shown = seen (start .args .rec) (now (start .args .memory)) (start .args .size) (rw (taken .picture .ensures .told) at done) in
-    rw (c .before .before .rows-of .ensures) (seen-small _ _ _ shown)
+    let done = sym (asked .is-done .ensures) ∙ not-false _ (c .before .before .before .before .before .if1 .left) in
+    let shown = seen (start .args .rec) (now (start .args .memory)) (start .args .profile) (rw (taken .picture .ensures .told) at done) in
+    rw (c .before .before .rows-of .ensures, c .before .before .before .size-of .ensures) (seen-small _ _ _ shown)
 
 same-length : tie.Need-same-length
 same-length c = search needs
@@ -51,12 +54,14 @@ same-length c = search needs
 returns-2 : tie.Need-returns-2
 returns-2 c =
     let drawn = c .before .before in
-    let asked = drawn .before .before .before .before .before .before in
+    let measured = drawn .before .before .before in
+    let asked = measured .before .before .before .before in
     let taken = asked .before .before in
     let start = taken .before .before .before .before in
-    let done = sym (asked .is-done .ensures) ∙ not-false _ (drawn .before .before .before .before .before .if1 .left) in
-    let shown = seen (start .args .rec) (now (start .args .memory)) (start .args .size) (rw (taken .picture .ensures .told) at done) in
-    taken-drawn _ _ _ _ _ _ shown (rw (drawn .before .before .before .rows-of .ensures, taken .picture .ensures .out) at (drawn .draw-taken .ensures))
+    let done = sym (asked .is-done .ensures) ∙ not-false _ (measured .before .before .before .if1 .left) in
+    let shown = seen (start .args .rec) (now (start .args .memory)) (start .args .profile) (rw (taken .picture .ensures .told) at done) in
+    taken-drawn _ _ _ _ _ _ shown
+    (rw (measured .rows-of .ensures, measured .before .size-of .ensures, taken .picture .ensures .out) at (drawn .draw-taken .ensures))
 
 pub draw-spec : {M : Type 1} → statement M
 draw-spec =
@@ -67,6 +72,7 @@ draw-spec =
     is-done-requires
     refused-requires
     returns
+    size-of-requires
     rows-of-requires
     slice-aggregate-draw-taken
     draw-taken-requires

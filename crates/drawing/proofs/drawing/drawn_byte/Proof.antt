@@ -28,7 +28,7 @@ enum-told-4 c = search needs
 
 bitmap-byte-requires : tie.Need-bitmap-byte-requires
 bitmap-byte-requires c κs =
-    let start = c .before .before .before .before .before in
+    let start = c .before .before .before .before in
     (start .pre .0, rw (c .enum-told4 .given .1) at (start .pre .1))
 
 enum-told-5 : tie.Need-enum-told-5

@@ -1,4 +1,4 @@
--- `drawing::grid::last_y` meets its contract: two lines of few rows make a small product.
+-- `drawing::grid::last_y` meets its contract: four lines of few rows make a small product.
 -- Assumes nothing.
 use Prim.Native.Nat.{_+_}
 use native.Mathlib.Omega.{arith}
@@ -19,7 +19,7 @@ mul-result : tie.Need-mul-result
 mul-result c =
     let start = c .before .before in
     let grid = start .args .grid in
-    omega (arith, product (grid .size .lines) (grid .rows + 1) 2 12 (start .pre .lines) (omega (arith, start .pre .rows)))
+    omega (arith, product (grid .size .lines) (grid .rows + 1) 4 12 (start .pre .lines) (omega (arith, start .pre .rows)))
 
 returns : tie.Need-returns
 unfolding lastY

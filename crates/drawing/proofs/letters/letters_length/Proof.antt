@@ -1,4 +1,4 @@
--- `drawing::letters::letters_length` meets its contract: a small glass has at most four rows of 43 bytes.
+-- `drawing::letters::letters_length` meets its contract: a small glass has at most eight rows of 43 bytes.
 -- Assumes nothing.
 use native.Mathlib.Omega.{arith}
 use Rattle.drawing.specs.Letters.{lettersLength}
