@@ -29,15 +29,16 @@ done
 
 # Words that cannot be followed: what is allowed is told on standard error, and nothing is drawn.
 cat > "$work/allowed" << 'EOF'
-glass: these words cannot be followed. Allowed are COLUMNS LINES (1 to 40, 1 or 2; without them 16 2),
+glass: these words cannot be followed. Allowed are COLUMNS LINES (1 to 40, 1 or 2; 20 4; without them 16 2) or --divided,
 glass: --until TRANSFERS (0 to 99999), --khz N (190 to 350; without it 250)
 glass: and one of --dots, --blocks, --text, --cells and --pbm
 EOF
 : > "$work/empty"
-for words in '0 1' '41 2' '16 0' '16 3' '16' '20 2 1' '-1 2' '1a 2' '016 2' 'x' '--bmp' '--pbm --cellss' '--pbm --cells' \
-    '--cells --cells' '--dots --dots' '--text --blocks' '20 2 --cells --' '--until' '--until x' '--until 7x' '--until 100000' \
-    '--until 999999999' '--until --text' '--until 1 --until 2' '--khz' '--khz 189' '--khz 351' '--khz 27' '--khz 2700' \
-    '--khz 0250' '--khz 25a' '--khz --text' '--khz 250 --khz 250' '--until 1 --khz'; do
+for words in '0 1' '41 2' '16 0' '16 3' '20 3' '20 5' '16 4' '21 4' '16' '20 2 1' '20 4 1' '--divided 16 1' '16 1 --divided' \
+    '--divided 16' '20 4 --divided' '--divided --divided' '--dividedd' '-1 2' '1a 2' '016 2' 'x' '--bmp' '--pbm --cellss' \
+    '--pbm --cells' '--cells --cells' '--dots --dots' '--text --blocks' '20 2 --cells --' '--until' '--until x' '--until 7x' \
+    '--until 100000' '--until 999999999' '--until --text' '--until 1 --until 2' '--khz' '--khz 189' '--khz 351' '--khz 27' \
+    '--khz 2700' '--khz 0250' '--khz 25a' '--khz --text' '--khz 250 --khz 250' '--until 1 --khz'; do
     # shellcheck disable=SC2086
     timeout 20 "$program" $words < examples/hello.session > "$work/got" 2> "$work/errors"
     same "told of: $words" "$work/errors" "$work/allowed"
@@ -56,6 +57,17 @@ printf 'P4\n0392 0080\n' > "$work/want"
 same "a bitmap's head" "$work/head" "$work/want"
 [ "$(wc -c < "$work/got")" -eq 3933 ]
 count 'a bitmap of 8 x 1 has 3,933 bytes' $?
+
+# The bitmaps of the panels of fixed size.
+timeout 20 "$program" 20 4 --pbm < examples/four_rows.session > "$work/got"
+head -c 13 "$work/got" > "$work/head"
+printf 'P4\n0968 0296\n' > "$work/want"
+same 'the head of four rows' "$work/head" "$work/want"
+[ "$(wc -c < "$work/got")" -eq 35829 ]
+count 'a bitmap of 20 x 4 has 35,829 bytes' $?
+timeout 20 "$program" --divided --pbm < examples/hall_sign.session > "$work/got"
+[ "$(wc -c < "$work/got")" -eq 7773 ]
+count 'a bitmap of the divided row has 7,773 bytes' $?
 
 # Refusals beside a bitmap are told on standard error; where there are none, nothing is told.
 timeout 20 "$program" 8 1 --pbm < examples/too_early.session > "$work/got" 2> "$work/errors"

@@ -4,7 +4,6 @@ mod options;
 mod refusals;
 
 use controller::number;
-use dots::Size;
 use drawing::Form;
 use drawing::draw;
 use libc::STDERR_FILENO;
@@ -14,6 +13,7 @@ use lines::write_header;
 use lines::write_row;
 use options::Options;
 use options::are_good;
+use options::panel_of;
 use options::read_options;
 use player::Standing;
 use player::play_through;
@@ -33,7 +33,7 @@ const OUTPUT: usize = 65_536;
 fn tell_usage() {
     tell(
         b"glass",
-        b"these words cannot be followed. Allowed are COLUMNS LINES (1 to 40, 1 or 2; without them 16 2),",
+        b"these words cannot be followed. Allowed are COLUMNS LINES (1 to 40, 1 or 2; 20 4; without them 16 2) or --divided,",
     );
     tell(
         b"glass",
@@ -94,17 +94,14 @@ fn tell_end(form: Form, standing: Standing, text: &[u8]) {
     tell_bad_line(b"glass", line, text, standing.from);
 }
 
-// Draws the panel in the lit phase, and tells of refusals; a size that no glass has is told with what is allowed.
+// Draws the panel in the lit phase, and tells of refusals; a size that no panel has is told with what is allowed.
 fn show(options: Options, standing: Standing) {
     let mut out = [0u8; OUTPUT];
     let form = options.form;
     let rec = standing.rec;
     let memory = standing.memory;
-    let size = Size {
-        columns: options.columns,
-        lines: options.lines,
-    };
-    let drawn = draw(form, rec, &memory, size, true, &mut out);
+    let panel = panel_of(options);
+    let drawn = draw(form, rec, &memory, panel, true, &mut out);
     let answer = drawn.answer;
     if number(answer) != 0 {
         tell_usage();

@@ -1,8 +1,10 @@
-// What is asked for on the command line: the panel's size, the form of the drawing, the oscillator's frequency, and how many
+// What is asked for on the command line: the panel, the form of the drawing, the oscillator's frequency, and how many
 // transfers are played.
 use check::same;
 use controller::Frequency;
 use controller::is_in_range;
+use dots::Profile;
+use dots::Size;
 use drawing::Form;
 use lines::three_digits;
 
@@ -14,6 +16,8 @@ pub struct Options {
     pub lines: u8,
     // How many numbers were given: columns, then lines.
     pub numbers: u8,
+    // Whether the word `--divided` was given.
+    pub divided: bool,
     // At most so many transfers are played.
     pub until: u64,
     // Whether the word `--until` was given.
@@ -38,6 +42,7 @@ pub enum Awaited {
 enum Word {
     Form(Form),
     Number(u8),
+    Divided,
     Until,
     Khz,
     Unknown,
@@ -126,6 +131,9 @@ fn word_of(text: &[u8]) -> Word {
     if same(text, b"--pbm") {
         return Word::Form(Form::Bitmap);
     }
+    if same(text, b"--divided") {
+        return Word::Divided;
+    }
     if same(text, b"--until") {
         return Word::Until;
     }
@@ -155,6 +163,16 @@ fn with_number(options: Options, number: u8) -> Options {
         return next;
     }
     not_understood(options)
+}
+
+// The divided row can be asked for once.
+fn with_divided(options: Options) -> Options {
+    if options.divided {
+        return not_understood(options);
+    }
+    let mut next = options;
+    next.divided = true;
+    next
 }
 
 // A form can be asked for once.
@@ -197,6 +215,7 @@ fn with_word(options: Options, word: Word) -> Options {
     match word {
         Word::Form(form) => with_form(options, form),
         Word::Number(number) => with_number(options, number),
+        Word::Divided => with_divided(options),
         Word::Until => with_until(options),
         Word::Khz => with_khz(options),
         Word::Unknown => not_understood(options),
@@ -225,7 +244,7 @@ fn with_frequency(options: Options, khz: u16) -> Options {
 
 // The options with a word of the command line by its number. One that is longer than any that is known comes as an empty one.
 fn with_word_at(options: Options, at: usize) -> Options {
-    let mut text = [0u8; 8];
+    let mut text = [0u8; 9];
     let length = os::arg(at, &mut text);
     let awaited = options.awaited;
     match awaited {
@@ -243,6 +262,7 @@ pub fn read_options(usual: Form) -> Options {
         columns: 16,
         lines: 2,
         numbers: 0,
+        divided: false,
         until: u64::MAX,
         bounded: false,
         frequency: Frequency::OLDER,
@@ -260,6 +280,25 @@ pub fn read_options(usual: Form) -> Options {
     options
 }
 
+// The panel that is asked for. The one of 20 x 4 is named by its size, since no other has four lines.
+pub fn panel_of(options: Options) -> Profile {
+    if options.divided {
+        return Profile::Divided;
+    }
+    if options.columns == 20 && options.lines == 4 {
+        return Profile::FourRows;
+    }
+    Profile::Plain(Size {
+        columns: options.columns,
+        lines: options.lines,
+    })
+}
+
+// Whether the size is told whole: columns and lines, or neither; with the divided row neither.
+fn is_sized(options: Options) -> bool {
+    options.numbers == 0 || (options.numbers == 2 && !options.divided)
+}
+
 fn is_settled(awaited: Awaited) -> bool {
     match awaited {
         Awaited::Nothing => true,
@@ -268,10 +307,10 @@ fn is_settled(awaited: Awaited) -> bool {
     }
 }
 
-// Whether the options can be followed: each word was understood, columns and lines were given both or not at all, `--until` and
-// `--khz` have their numbers, and there is a module of this frequency.
+// Whether the options can be followed: each word was understood, the size is told whole, `--until` and `--khz` have their
+// numbers, and there is a module of this frequency.
 pub fn are_good(options: Options) -> bool {
     let awaited = options.awaited;
     let frequency = options.frequency;
-    options.understood && (options.numbers != 1 && (is_settled(awaited) && is_in_range(frequency)))
+    options.understood && (is_sized(options) && (is_settled(awaited) && is_in_range(frequency)))
 }
