@@ -1,8 +1,11 @@
--- The demands, cited where their parts are proved; here only that a refused writer of text leaves its buffer.
+-- The demands, cited where their parts are proved; here only that a refused writer of text leaves its buffer, and what a panel
+-- shows of a wish that stands.
 -- Assumes nothing.
+use mathlib.Core.Bool.{Bool, true, false}
 use mathlib.Core.List.{List, []}
-use mathlib.Core.Path.{_≡_, ap, _∙_}
-use Prim.Native.Nat.{ℕ}
+use mathlib.Core.Path.{_≡_, refl, ap, _∙_}
+use Prim.Native.Nat.{ℕ, _<_}
+use native.Mathlib.Omega.{arith}
 use lib.ListN.{length}
 use Rattle.controller.proofs.Theorems.Answers.{transfer-answers, loan-answers, reset-answers}
 use Rattle.controller.proofs.Theorems.Halves.{halves-make-whole}
@@ -16,9 +19,15 @@ use Rattle.controller.proofs.Theorems.Times.{oscillator-rules}
 use Rattle.controller.specs.declared.oscillator.Frequency.{Frequency}
 use Rattle.controller.specs.Answers.{numberOf}
 use Rattle.drawing.proofs.Theorems.{draw-answers, draw-refusals}
+use Rattle.dots.specs.declared.geometry.Shown.the-variants.{Cell}
+use Rattle.dots.specs.Font.{font}
+use Rattle.dots.specs.Geometry.{cellAt}
+use Rattle.dots.specs.Picture.{cellRow}
+use Rattle.dots.proofs.Places.{in-within}
 use Rattle.dots.proofs.Table.{table-rows, table-shapes, table-shows}
 use Rattle.dots.proofs.Theorems.{cursor-shows, each-byte, eight-rows, f-alters-nothing, five-dots, later-stay, line-shows, off-dark}
-use Rattle.dots.proofs.Theorems.{pattern-shows, picture-answers, picture-refusals, position-dots, second-line-dark}
+use Rattle.dots.proofs.Theorems.{pattern-shows, picture-answers, picture-refusals, position-dots}
+use Rattle.dots.proofs.Profiles.{first-line-reads, one-position, panel-sizes, rows-run, rows-start, second-line-dark}
 use Rattle.interface.proofs.Theorems.Answers.{call-answers}
 use Rattle.interface.proofs.Theorems.Refusals.{call-refusals}
 use Rattle.lines.proofs.Laws.Nothing.{WritesNothing, wanting-nothing, writer-nothing}
@@ -27,6 +36,7 @@ use Rattle.lines.proofs.Theorems.Read.{read-or-refused, reader-answers, read-wr
 use Rattle.lines.proofs.Theorems.Written.{buffer-reads-back, written-reads-back}
 use Rattle.lines.specs.Writing.{Writing, onto}
 use Rattle.lines.specs.declared.writer.Written.{Written}
+use Rattle.planner.specs.Demand.{wishedRecord}
 use Rattle.planner.proofs.Theorems.Plan.{planned-runs}
 use Rattle.planner.proofs.Theorems.Wish.{not-wishes, plan-answers, plan-refusals}
 use Rattle.captures.proofs.Theorems.Answers.{import-answers, import-nothing}
@@ -36,7 +46,7 @@ use Rattle.player.proofs.Theorems.One.{play-answers}
 use Rattle.player.specs.Report.{report, reportSize, playing}
 use Rattle.promises.proofs.Determined.{each-determined}
 use Rattle.promises.specs.Answers.{EachAnswer}
-use Rattle.promises.specs.Demands.{LeavesBuffer, Demand1, DotRules, Demand2, Demand3}
+use Rattle.promises.specs.Demands.{LeavesBuffer, Demand1, DotRules, Demand2, Demand3, WishedOnGlass}
 
 pub each-answer : EachAnswer
 each-answer =
@@ -96,8 +106,13 @@ dot-rules =
       five = five-dots;
       later = later-stay;
       lines = line-shows;
+      sizes = panel-sizes;
+      starts = rows-start;
+      runs = rows-run;
       positions = position-dots;
+      one-position = one-position;
       second-line = second-line-dark;
+      first-line = first-line-reads;
       patterns = pattern-shows;
       table = table-shows;
       table-rows = table-rows;
@@ -135,5 +150,17 @@ demand-2 =
       one-reading = one-reading;
     }
 
+-- A cell that a position shows is one of the 80.
+shown-below : (n : Bool) (shift line position cell : ℕ) → cellAt n shift line position ≡ Cell cell → cell < 80
+shown-below true shift line position cell is = rw is at (in-within 2 40 shift line position (omega arith) (omega arith))
+shown-below false shift line position cell is = rw is at (in-within 1 80 shift line position (omega arith) (omega arith))
+
+wished-on-glass : WishedOnGlass
+unfolding cellRow
+wished-on-glass wish marks values state profile lit line row column cell stands d shows named =
+    let below = shown-below (wish .function .n) (wish .shift) _ _ cell shows in
+    let same = stands .cells cell (omega arith) named in
+    rw (stands .rec) (position-dots font (wishedRecord wish (state .mem)) (state .mem) lit profile line row column cell d shows ∙ rw same refl)
+
 pub demand-3 : Demand3
-demand-3 = planned-runs
+demand-3 = record { runs = planned-runs; glass = wished-on-glass }

@@ -54,9 +54,11 @@ each-determined =
       is-in-range = λ frequency. one _;
       short-time = λ frequency. one _;
       long-time = λ frequency. one _;
-      picture = λ rec mem size lit out. two _ _ _ (record { told = refl; number = refl; out = refl }) (λ a l is. (is .told, is .out));
+      picture = λ rec mem profile lit out. two _ _ _ (record { told = refl; number = refl; out = refl }) (λ a l is. (is .told, is .out));
       rows-of = λ function. one _;
-      is-shown = λ n shift size cell. one _;
+      is-shown = λ n shift profile cell. one _;
+      shown-at = λ n shift profile line column. one _;
+      size-of = λ profile. one _;
       plan = λ wish marks values out. two _ _ _ (record { told = refl; number = refl; buffer = refl }) (λ a l is. (is .told, is .buffer));
       hex-digit = λ number. one _;
       worth-of = λ byte. one _;
@@ -79,12 +81,12 @@ each-determined =
       wrong-word = λ capture. one _;
       lacks-signal = λ capture line. one _;
       unknown-fall = λ capture. one _;
-      draw = λ form rec mem size lit out. two _ _ _ (record { told = refl; number = refl; out = refl }) (λ a l is. (is .told, is .out));
+      draw = λ form rec mem profile lit out. two _ _ _ (record { told = refl; number = refl; out = refl }) (λ a l is. (is .told, is .out));
       yaropesk-reset = λ bytes mem.
           three _ _ _ _ (record { told = refl; rec = refl; memory = refl }) (λ a b l is. (is .told, is .rec, is .memory));
       yaropesk-transfer = λ bytes mem kind byte wait.
           three _ _ _ _ (record { told = refl; rec = refl; memory = refl }) (λ a b l is. (is .told, is .rec, is .memory));
-      yaropesk-picture = λ bytes mem columns lines lit out. two _ _ _ (record { told = refl; buffer = refl }) (λ a l is. (is .told, is .buffer));
+      yaropesk-picture = λ bytes mem profile columns lines lit out. two _ _ _ (record { told = refl; buffer = refl }) (λ a l is. (is .told, is .buffer));
       yaropesk-plan = λ wish marks values out. two _ _ _ (record { told = refl; buffer = refl }) (λ a l is. (is .told, is .buffer));
       yaropesk-write-line = λ kind byte wait out. two _ _ _ (record { told = refl; buffer = refl }) (λ a l is. (is .told, is .buffer));
       yaropesk-read-line = λ text out. two _ _ _ (record { told = refl; buffer = refl }) (λ a l is. (is .told, is .buffer));

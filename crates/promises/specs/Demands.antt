@@ -1,8 +1,10 @@
 -- The three demands, each as one statement over all public calls.
 -- Assumes nothing.
+use mathlib.Core.Bool.{Bool, true, cond}
 use mathlib.Core.List.{List}
 use mathlib.Core.Path.{_≡_}
 use Prim.Native.Nat.{ℕ}
+use lib.ListN.{getD}
 use Rattle.captures.specs.Import.{importing}
 use Rattle.captures.specs.Made.{capturing}
 use Rattle.controller.specs.declared.oscillator.Frequency.{Frequency}
@@ -11,18 +13,28 @@ use Rattle.controller.specs.Rules.{DataRules, HalvesMakeWhole, InstructionRules
 use Rattle.controller.specs.Rules.{AddressSetGoes, ClearLeavesRest, ClearRunsRight, FunctionMovesNothing}
 use Rattle.controller.specs.Rules.{ReadNeverShifts, StatusAltersNothing}
 use Rattle.controller.specs.Answers.{numberOf}
+use Rattle.controller.specs.Runs.{State}
 use Rattle.controller.specs.Theorems.{TransferAnswers, TransferKeepsSound, ResetMakesSound, EffectsFit}
 use Rattle.controller.specs.Theorems.{TransferRefusals, LoanRefusals, ResetRefusals}
 use Rattle.controller.specs.Times.{OscillatorRules}
 use Rattle.drawing.specs.Theorems.{DrawRefusals}
+use Rattle.dots.specs.declared.geometry.Shown.the-variants.{Cell}
+use Rattle.dots.specs.declared.panel.Profile.{Profile}
+use Rattle.dots.specs.Font.{font}
+use Rattle.dots.specs.Geometry.{shownAt}
+use Rattle.dots.specs.Picture.{covered, dotsOn, rowOf}
 use Rattle.dots.specs.Theorems.{CursorShows, EachByte, EightRows, FAltersNothing, FiveDots, LaterStay, LineShows, OffDark}
-use Rattle.dots.specs.Theorems.{PatternShows, PictureRefusals, PositionDots, SecondLineDark, TableRows, TableShapes, TableShows}
+use Rattle.dots.specs.Theorems.{PatternShows, PictureRefusals, PositionDots, TableRows, TableShapes, TableShows}
+use Rattle.dots.specs.Profiles.{FirstLineReads, OnePosition, PanelSizes, RowsRun, RowsStart, SecondLineDark}
 use Rattle.interface.specs.Theorems.{CallRefusals}
 use Rattle.lines.specs.Faults.{ReadOrRefused}
 use Rattle.lines.specs.Theorems.{BufferReadsBack, WrittenReadsBack, ReadWritesBack, OneReading}
 use Rattle.lines.specs.Writing.{Writing, Writes, wanting, lineWriting}
 use Rattle.lines.specs.declared.writer.Written.{Written}
+use Rattle.planner.specs.Demand.{Stands, wishedRecord}
 use Rattle.planner.specs.Theorems.{NotWishes, PlanRefusals, PlannedRuns}
+use Rattle.planner.specs.Wish.{marked}
+use Rattle.planner.specs.declared.wish.Wish.{Wish}
 use Rattle.player.specs.Report.{playing}
 use Rattle.player.specs.Theorems.{BadLineEnds}
 use Rattle.promises.specs.Answers.{EachAnswer}
@@ -66,15 +78,21 @@ pub record NamedRules : Type 0 where
   pub clear-runs-right : ClearRunsRight
   pub address-set-goes : AddressSetGoes
 
--- The dots on the glass: the place of each byte, the cell of each position, and the row that a code, the cursor or D gives.
+-- The dots on the glass of any panel: the place of each byte, the cell of each position, and the row that a code, the cursor or D
+-- gives.
 pub record DotRules : Type 0 where
   pub bytes : EachByte
   pub rows : EightRows
   pub five : FiveDots
   pub later : LaterStay
   pub lines : LineShows
+  pub sizes : PanelSizes
+  pub starts : RowsStart
+  pub runs : RowsRun
   pub positions : PositionDots
+  pub one-position : OnePosition
   pub second-line : SecondLineDark
+  pub first-line : FirstLineReads
   pub patterns : PatternShows
   pub table : TableShows
   pub table-rows : TableRows
@@ -105,7 +123,18 @@ pub record Demand2 : Type 0 where
   pub read : ReadWritesBack
   pub one-reading : OneReading
 
+-- What any panel shows of a controller that stands as wished, with D=1: at a position whose cell the wish names, the dots of the
+-- wished byte, and all five where the wished cursor or blinking covers them.
+abbrev pub WishedOnGlass : Type 0
+WishedOnGlass =
+    (wish : Wish) (marks values : List ℕ) (state : State) (profile : Profile) (lit : Bool) (line row column cell : ℕ)
+    → Stands wish marks values state → wish .control .d ≡ true
+    → shownAt (wish .function .n) (wish .shift) profile line column ≡ Cell cell → marked marks cell ≡ true
+    → dotsOn font (state .rec) (state .mem) lit profile line row column
+    ≡ cond (covered (wishedRecord wish (state .mem)) lit row cell) 0b11111 (rowOf font (state .mem) (getD values cell 0) row)
+
 -- 3. Any accepted wish, any sound controller of the wish's frequency, cut runs as often as you like and a whole one, of what a
--- board reads back from the bytes of the accepted call.
-abbrev pub Demand3 : Type 0
-Demand3 = PlannedRuns
+-- board reads back from the bytes of the accepted call; and what then stands on the glass of any panel.
+pub record Demand3 : Type 0 where
+  pub runs : PlannedRuns
+  pub glass : WishedOnGlass

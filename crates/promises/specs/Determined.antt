@@ -15,7 +15,9 @@ use Rattle.controller.specs.declared.sent.Sent.{Sent}
 use Rattle.controller.specs.declared.«record».Record.{Record}
 use Rattle.controller.specs.declared.«record».Function.{Function}
 use Rattle.drawing.specs.declared.drawing.Form.{Form}
-use Rattle.dots.specs.declared.geometry.Size.{Size}
+use Rattle.dots.specs.declared.geometry.Shown.{Shown}
+use Rattle.dots.specs.declared.panel.Profile.{Profile}
+use Rattle.dots.specs.declared.panel.Size.{Size}
 use Rattle.lines.specs.declared.reader.Line.{Line}
 use Rattle.lines.specs.declared.writer.Written.{Written}
 use Rattle.planner.specs.declared.call.Planned.{Planned}
@@ -29,7 +31,7 @@ use Rattle.controller.specs.Promises.{IsWholePromise, IsBadPromise, IsDonePromi
 use Rattle.controller.specs.Promises.{AddressSetPromise, CellOfPromise, LittleEndianPromise, NumberFromPromise, SixBytesPromise}
 use Rattle.controller.specs.Promises.{LineLengthPromise, IsInRangePromise, ShortTimePromise, LongTimePromise}
 use Rattle.drawing.specs.Promises.{DrawPromise}
-use Rattle.dots.specs.Promises.{PicturePromise, RowsOfPromise, IsShownPromise}
+use Rattle.dots.specs.Promises.{PicturePromise, RowsOfPromise, IsShownPromise, ShownAtPromise, SizeOfPromise}
 use Rattle.interface.specs.Promises.{YaropeskResetPromise, YaropeskTransferPromise, YaropeskPicturePromise, YaropeskPlanPromise}
 use Rattle.interface.specs.Promises.{YaropeskWriteLinePromise, YaropeskReadLinePromise, YaropeskImportPromise}
 use Rattle.lines.specs.Promises.{ReadLinePromise, WriteLinePromise, WriteRowPromise, WriteHeaderPromise, HexDigitPromise}
@@ -65,10 +67,14 @@ pub record EachDetermined : Type 0 where
   pub is-in-range : (frequency : Frequency) → ExactlyOne (λ (x : Bool). IsInRangePromise frequency x)
   pub short-time : (frequency : Frequency) → ExactlyOne (λ (x : ℕ). ShortTimePromise frequency x)
   pub long-time : (frequency : Frequency) → ExactlyOne (λ (x : ℕ). LongTimePromise frequency x)
-  pub picture : (rec : Record) (mem : List ℕ) (size : Size) (lit : Bool) (out : List ℕ)
-      → ExactlyOne (λ (x : Answer × List ℕ). PicturePromise rec mem size lit out (x .0) (x .1))
+  pub picture : (rec : Record) (mem : List ℕ) (profile : Profile) (lit : Bool) (out : List ℕ)
+      → ExactlyOne (λ (x : Answer × List ℕ). PicturePromise rec mem profile lit out (x .0) (x .1))
   pub rows-of : (function : Function) → ExactlyOne (λ (x : ℕ). RowsOfPromise function x)
-  pub is-shown : (n : Bool) (shift : ℕ) (size : Size) (cell : ℕ) → ExactlyOne (λ (x : Bool). IsShownPromise n shift size cell x)
+  pub is-shown : (n : Bool) (shift : ℕ) (profile : Profile) (cell : ℕ)
+      → ExactlyOne (λ (x : Bool). IsShownPromise n shift profile cell x)
+  pub shown-at : (n : Bool) (shift : ℕ) (profile : Profile) (line column : ℕ)
+      → ExactlyOne (λ (x : Shown). ShownAtPromise n shift profile line column x)
+  pub size-of : (profile : Profile) → ExactlyOne (λ (x : Size). SizeOfPromise profile x)
   pub plan : (wish : Wish) (marks values out : List ℕ)
       → ExactlyOne (λ (x : Planned × List ℕ). PlanPromise wish marks values out (x .0) (x .1))
   pub hex-digit : (number : ℕ) → ExactlyOne (λ (x : ℕ). HexDigitPromise number x)
@@ -97,14 +103,14 @@ pub record EachDetermined : Type 0 where
   pub wrong-word : (capture : List ℕ) → ExactlyOne (λ (x : Wrong). WrongWordPromise capture x)
   pub lacks-signal : (capture : List ℕ) (line : ℕ) → ExactlyOne (λ (x : Bool). LacksSignalPromise capture line x)
   pub unknown-fall : (capture : List ℕ) → ExactlyOne (λ (x : Unknown). UnknownFallPromise capture x)
-  pub draw : (form : Form) (rec : Record) (mem : List ℕ) (size : Size) (lit : Bool) (out : List ℕ)
-      → ExactlyOne (λ (x : Written × List ℕ). DrawPromise form rec mem size lit out (x .0) (x .1))
+  pub draw : (form : Form) (rec : Record) (mem : List ℕ) (profile : Profile) (lit : Bool) (out : List ℕ)
+      → ExactlyOne (λ (x : Written × List ℕ). DrawPromise form rec mem profile lit out (x .0) (x .1))
   pub yaropesk-reset : (bytes mem : List ℕ)
       → ExactlyOne (λ (x : ℕ × List ℕ × List ℕ). YaropeskResetPromise bytes mem (x .0) (x .1) (x .2))
   pub yaropesk-transfer : (bytes mem : List ℕ) (kind byte wait : ℕ)
       → ExactlyOne (λ (x : ℕ × List ℕ × List ℕ). YaropeskTransferPromise bytes mem kind byte wait (x .0) (x .1) (x .2))
-  pub yaropesk-picture : (bytes mem : List ℕ) (columns lines lit : ℕ) (out : List ℕ)
-      → ExactlyOne (λ (x : ℕ × List ℕ). YaropeskPicturePromise bytes mem columns lines lit out (x .0) (x .1))
+  pub yaropesk-picture : (bytes mem : List ℕ) (profile columns lines lit : ℕ) (out : List ℕ)
+      → ExactlyOne (λ (x : ℕ × List ℕ). YaropeskPicturePromise bytes mem profile columns lines lit out (x .0) (x .1))
   pub yaropesk-plan : (wish marks values out : List ℕ)
       → ExactlyOne (λ (x : ℕ × List ℕ). YaropeskPlanPromise wish marks values out (x .0) (x .1))
   pub yaropesk-write-line : (kind byte wait : ℕ) (out : List ℕ)
