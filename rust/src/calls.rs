@@ -5,7 +5,7 @@
 use crate::bytes::{frequency_of, record_bytes, record_of, wish_of};
 use crate::bytes::{FREQUENCY_AT, RECORD_BYTES};
 use crate::font::SHAPES;
-use crate::model::{self, Answer, Importer, Line, Reader, Record, Size, Step, Wish};
+use crate::model::{self, Answer, Importer, Line, Panel, Reader, Record, Step, Wish};
 use crate::model::{FONT, TRANSFER_BYTES, USUAL_KHZ};
 
 /// The seven calls. Each returns the answer's number plus 256 times a byte, a count or
@@ -13,7 +13,7 @@ use crate::model::{FONT, TRANSFER_BYTES, USUAL_KHZ};
 pub trait Calls {
     fn reset(&self, record: &mut [u8], memory: &mut [u8]) -> u32;
     fn transfer(&self, record: &mut [u8], memory: &mut [u8], kind: u8, byte: u8, wait: u32) -> u32;
-    fn picture(&self, record: &[u8], memory: &[u8], size: Size, lit: u8, out: &mut [u8]) -> u32;
+    fn picture(&self, record: &[u8], memory: &[u8], panel: Panel, lit: u8, out: &mut [u8]) -> u32;
     fn plan(&self, wish: &[u8], marks: &[u8], values: &[u8], out: &mut [u8]) -> u32;
     fn write_line(&self, kind: u8, byte: u8, wait: u32, out: &mut [u8]) -> u32;
     fn read_line(&self, text: &[u8], out: &mut [u8]) -> u32;
@@ -60,7 +60,7 @@ pub type RecordReader = fn(&[u8]) -> Option<Record>;
 pub type WishReader = fn(&[u8]) -> Option<Wish>;
 pub type LineCall = fn(Reader, &[u8], &mut [u8]) -> u32;
 pub type Resetter = fn(Record, &mut [u8]) -> (Answer, Record);
-pub type Painter = fn(&Record, &[u8], Size, bool, &mut [u8], &[u8; FONT]) -> Answer;
+pub type Painter = fn(&Record, &[u8], Panel, bool, &mut [u8], &[u8; FONT]) -> Answer;
 pub type Planner = fn(&Wish, &[u8], &[u8], &mut [u8]) -> (Answer, usize);
 pub type Writer = fn(u8, u8, u32, &mut [u8]) -> (Answer, usize);
 
@@ -125,11 +125,11 @@ impl Calls for Model {
 
     /// "lit: the phase of the blinking, 0 dark, any other lit."
     #[inline]
-    fn picture(&self, record: &[u8], memory: &[u8], size: Size, lit: u8, out: &mut [u8]) -> u32 {
+    fn picture(&self, record: &[u8], memory: &[u8], panel: Panel, lit: u8, out: &mut [u8]) -> u32 {
         let Some(found) = (self.record_of)(record) else {
             return returned(model::UNSOUND, 0);
         };
-        let answer = (self.picture)(&found, memory, size, lit != 0, out, &SHAPES);
+        let answer = (self.picture)(&found, memory, panel, lit != 0, out, &SHAPES);
         returned(answer, 0)
     }
 

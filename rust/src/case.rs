@@ -5,7 +5,7 @@ use std::fmt::{self, Display, Formatter};
 use crate::bytes::{frequency_of, BUSY_AT, FREQUENCY_AT, RECORD_BYTES};
 use crate::bytes::{WISH_BYTES, WISH_FREQUENCY_AT, WISH_ZEROS};
 use crate::calls::{answer_of, place_of, value_of, Calls};
-use crate::model::{little_endian, Answer, Size};
+use crate::model::{little_endian, Answer, Panel, Size};
 use crate::model::{BAD_BYTE, BAD_KIND, BAD_WAIT, BUSY, CROSSED, DONE, FIRST_HALF};
 use crate::model::{NOT_A_WISH, NO_CELL, NO_NEWLINE, OUT_OF_RANGE, STALE, TOO_SHORT};
 use crate::model::{UNSOUND, WRONG_KIND, WRONG_LENGTH};
@@ -75,15 +75,10 @@ impl Function {
         }
     }
 
-    /// Is it lent a record or a wish? Then that comes first.
-    pub fn has_frequency(self) -> bool {
-        matches!(self.buffers()[0], "record" | "wish")
-    }
-
     fn numbers(self) -> &'static [&'static str] {
         match self {
             Function::Transfer | Function::WriteLine => &["kind", "byte", "wait"],
-            Function::Picture => &["columns", "lines", "lit"],
+            Function::Picture => &["profile", "columns", "lines", "lit"],
             Function::Reset | Function::Plan | Function::ReadLine => &[],
         }
     }
@@ -95,7 +90,14 @@ impl Function {
 pub struct Case {
     pub function: Function,
     pub buffers: Vec<Vec<u8>>,
-    pub numbers: [u32; 3],
+    pub numbers: [u32; 4],
+}
+
+/// What a call can be made of that a comparison must not miss.
+#[derive(Clone, Copy, Debug, PartialEq, Eq, PartialOrd, Ord)]
+pub enum Met {
+    Frequency(u16),
+    Profile(u8),
 }
 
 /// What a call returned, and all the bytes that it was lent as it left them.
@@ -107,27 +109,38 @@ pub struct Outcome {
 
 impl Case {
     pub fn run(&self, calls: &impl Calls) -> Outcome {
-        let [first, second, third] = self.numbers;
-        let (one, two) = (first as u8, second as u8);
+        let [one, two, three, four] = self.numbers.map(|number| number as u8);
+        let wait = self.numbers[2];
         let mut buffers = self.buffers.clone();
         let returned = match (self.function, &mut buffers[..]) {
             (Function::Reset, [record, memory]) => calls.reset(record, memory),
             (Function::Transfer, [record, memory]) => {
-                calls.transfer(record, memory, one, two, third)
+                calls.transfer(record, memory, one, two, wait)
             }
             (Function::Picture, [record, memory, out]) => {
-                calls.picture(record, memory, Size::new(one, two), third as u8, out)
+                let panel = Panel {
+                    profile: one,
+                    size: Size::new(two, three),
+                };
+                calls.picture(record, memory, panel, four, out)
             }
             (Function::Plan, [wish, marks, values, out]) => calls.plan(wish, marks, values, out),
-            (Function::WriteLine, [out]) => calls.write_line(one, two, third, out),
+            (Function::WriteLine, [out]) => calls.write_line(one, two, wait, out),
             (Function::ReadLine, [text, out]) => calls.read_line(text, out),
             _ => panic!("{} with {} buffers", self.function.name(), buffers.len()),
         };
         Outcome { returned, buffers }
     }
 
-    /// The frequency in the record or the wish that is lent, if that has its length.
-    pub fn frequency(&self) -> Option<u16> {
+    /// The frequency in the record or the wish that is lent, and the profile, if it has them.
+    pub fn meets(&self) -> impl Iterator<Item = Met> {
+        let is_picture = self.function == Function::Picture;
+        let profile = is_picture.then_some(self.numbers[0] as u8);
+        let frequency = self.frequency().map(Met::Frequency);
+        frequency.into_iter().chain(profile.map(Met::Profile))
+    }
+
+    fn frequency(&self) -> Option<u16> {
         let first = self.buffers.first()?;
         match (self.function.buffers()[0], first.len()) {
             ("record", RECORD_BYTES) => Some(frequency_of(&first[FREQUENCY_AT])),

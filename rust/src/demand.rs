@@ -97,7 +97,7 @@ impl Trial {
                 self.values.clone(),
                 vec![0; PLAN_BYTES],
             ],
-            numbers: [0; 3],
+            numbers: [0; 4],
         }
     }
 
@@ -115,7 +115,7 @@ impl Trial {
                     std::mem::take(&mut panel.record),
                     std::mem::take(&mut panel.memory),
                 ],
-                numbers: [kind.into(), byte.into(), wait.saturating_add(*longer)],
+                numbers: [kind.into(), byte.into(), wait.saturating_add(*longer), 0],
             };
             let outcome = call(&case)?;
             if answer_of(outcome.returned) == model::BUSY {

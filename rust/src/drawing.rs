@@ -6,7 +6,7 @@
 
 use crate::calls::{Model, MODEL};
 use crate::font::SHAPES;
-use crate::model::{self, Counter, Half, Played, Record, Size};
+use crate::model::{self, Counter, Half, Panel, Played, Record, Size};
 use crate::model::{DISPLAY_CELLS, USUAL_KHZ};
 use crate::programs::Written;
 
@@ -41,13 +41,13 @@ impl Form {
     }
 }
 
-/// The size that need not be said.
-pub const USUAL: Size = Size::new(16, 2);
+/// The panel that need not be said.
+pub const USUAL: Panel = Panel::plain(16, 2);
 
 /// What the program is asked for.
 #[derive(Clone, Copy, Debug, PartialEq, Eq)]
 pub struct Asked {
-    pub size: Size,
+    pub panel: Panel,
     pub form: Form,
     /// How many transfers are played at most.
     pub until: Option<usize>,
@@ -58,7 +58,7 @@ pub struct Asked {
 impl Asked {
     /// What need not be said.
     pub const USUAL: Asked = Asked {
-        size: USUAL,
+        panel: USUAL,
         form: Form::Dots,
         until: None,
         frequency: None,
@@ -88,9 +88,9 @@ pub type Grid = Vec<Vec<Dot>>;
 pub type Gridder = fn(&[u8], Size) -> Grid;
 pub type Inker = fn(Dot) -> [u8; 8];
 pub type Blocker = fn([bool; 4]) -> char;
-pub type Speller = fn(&Played, u8, u8) -> char;
-pub type Pointer = fn(&Record, u8, u8) -> bool;
-pub type Watcher = fn(&Record, Size, u8) -> bool;
+pub type Speller = fn(&Played, Panel, u8, u8) -> char;
+pub type Pointer = fn(&Record, Panel, u8, u8) -> bool;
+pub type Watcher = fn(&Record, Panel, u8) -> bool;
 pub type Teller = fn(&Record) -> String;
 
 /// The model and the parts of a drawing. A wrong one has a wrong function in it.
@@ -125,7 +125,7 @@ pub const DRAWING: Drawing = Drawing {
 impl Drawing {
     /// What the program `glass` writes for a session.
     pub fn program(&self, text: &[u8], asked: &Asked) -> Written {
-        let Asked { size, form, .. } = *asked;
+        let Asked { panel, form, .. } = *asked;
         let mut written = Written::default();
         // Words beside a bitmap go elsewhere, so that it stands alone.
         let told = match form {
@@ -150,9 +150,9 @@ impl Drawing {
             if played.refused > 0 {
                 written.errors.extend(refused.into_bytes());
             }
-            written.output.extend(self.drawn(&played, size, form));
+            written.output.extend(self.drawn(&played, panel, form));
         } else {
-            written.output.extend(self.drawn(&played, size, form));
+            written.output.extend(self.drawn(&played, panel, form));
             written.output.extend(refused.into_bytes());
         }
         written
@@ -173,22 +173,22 @@ impl Drawing {
         }
     }
 
-    fn drawn(&self, played: &Played, size: Size, form: Form) -> Vec<u8> {
+    fn drawn(&self, played: &Played, panel: Panel, form: Form) -> Vec<u8> {
         match form {
-            Form::Dots => self.dots(played, size).into_bytes(),
-            Form::Blocks => self.blocks(played, size).into_bytes(),
-            Form::Letters => self.letters(played, size).into_bytes(),
-            Form::Bitmap => self.bitmap(&self.glass(played, size)),
-            Form::Cells => self.cells(played, size).into_bytes(),
+            Form::Dots => self.dots(played, panel).into_bytes(),
+            Form::Blocks => self.blocks(played, panel).into_bytes(),
+            Form::Letters => self.letters(played, panel).into_bytes(),
+            Form::Bitmap => self.bitmap(&self.glass(played, panel)),
+            Form::Cells => self.cells(played, panel).into_bytes(),
         }
     }
 
     /// "draws the panel as it then stands, cursor and blinking in the lit phase".
-    fn glass(&self, played: &Played, size: Size) -> Grid {
-        let (rec, mem) = (&played.rec, &played.mem);
+    fn glass(&self, played: &Played, panel: Panel) -> Grid {
+        let (rec, mem, size) = (&played.rec, &played.mem, size_of(panel));
         let mut dots = vec![0; model::picture_bytes(rec, size)];
-        let answer = (self.model.picture)(rec, mem, size, true, &mut dots, &SHAPES);
-        assert_eq!(answer, model::DONE, "the size is that of a glass");
+        let answer = (self.model.picture)(rec, mem, panel, true, &mut dots, &SHAPES);
+        assert_eq!(answer, model::DONE, "the panel has a glass");
         (self.grid)(&dots, size)
     }
 
@@ -197,8 +197,8 @@ impl Drawing {
     // -----------------------------------------------------------------------
 
     /// The dots in a frame, "with the state below".
-    fn dots(&self, played: &Played, size: Size) -> String {
-        let grid = self.glass(played, size);
+    fn dots(&self, played: &Played, panel: Panel) -> String {
+        let grid = self.glass(played, panel);
         let edge = format!("+{}+\n", "-".repeat(grid[0].len()));
         let mut text = edge.clone();
         for row in grid {
@@ -209,8 +209,8 @@ impl Drawing {
     }
 
     /// The dots as "block characters, two dots to a character in each direction".
-    fn blocks(&self, played: &Played, size: Size) -> String {
-        let grid = self.glass(played, size);
+    fn blocks(&self, played: &Played, panel: Panel) -> String {
+        let grid = self.glass(played, panel);
         let is_lit = |x: usize, y: usize| {
             let place = grid.get(y).and_then(|row| row.get(x));
             place == Some(&Dot::Lit)
@@ -233,12 +233,13 @@ impl Drawing {
 
     /// "what the glass reads as plain text", each line between bars, and under it "`^`
     /// under the cell that the counter stands on".
-    fn letters(&self, played: &Played, size: Size) -> String {
+    fn letters(&self, played: &Played, panel: Panel) -> String {
         let mut text = String::new();
-        for line in 0..size.lines {
-            let letters = (0..size.columns).map(|column| (self.reads)(played, line, column));
-            let carets = (0..size.columns).map(|column| {
-                let is_there = (self.is_counter)(&played.rec, line, column);
+        let Size { columns, lines } = size_of(panel);
+        for line in 0..lines {
+            let letters = (0..columns).map(|column| (self.reads)(played, panel, line, column));
+            let carets = (0..columns).map(|column| {
+                let is_there = (self.is_counter)(&played.rec, panel, line, column);
                 if is_there {
                     '^'
                 } else {
@@ -278,9 +279,9 @@ impl Drawing {
 
     /// "all 144 cells are listed as hexadecimal, those display cells that this glass does
     /// not show marked `*`", sixteen to a line, and the display cells "as letters too".
-    fn cells(&self, played: &Played, size: Size) -> String {
+    fn cells(&self, played: &Played, panel: Panel) -> String {
         let mut text = String::from("display cells marked * are not on this glass\n");
-        let shown = |cell: usize| (self.is_shown)(&played.rec, size, cell as u8);
+        let shown = |cell: usize| (self.is_shown)(&played.rec, panel, cell as u8);
         let (display, pattern) = played.mem.split_at(usize::from(DISPLAY_CELLS));
         let as_letters = |cells: &[u8]| {
             let letters: String = cells.iter().map(|&code| letter(code)).collect();
@@ -296,6 +297,11 @@ impl Drawing {
 // ---------------------------------------------------------------------------
 // The parts
 // ---------------------------------------------------------------------------
+
+/// The size of a panel that the program draws.
+fn size_of(panel: Panel) -> Size {
+    panel.glass().expect("the panel has a glass")
+}
 
 /// Five dots a character, a gap between two characters and a row of gaps between two
 /// lines.
@@ -362,8 +368,8 @@ pub fn block([upper_left, upper_right, lower_left, lower_right]: [bool; 4]) -> c
 }
 
 /// What a position reads as: a blank where D=0 and where its line is not driven.
-pub fn reads(played: &Played, line: u8, column: u8) -> char {
-    match model::shown_cell(&played.rec, line, column) {
+pub fn reads(played: &Played, panel: Panel, line: u8, column: u8) -> char {
+    match model::shown_cell(&played.rec, panel, line, column) {
         Some(cell) if played.rec.d => letter(played.mem[usize::from(cell)]),
         _ => ' ',
     }
@@ -379,17 +385,16 @@ pub fn letter(code: u8) -> char {
 }
 
 /// Does this position show the cell that the counter stands on?
-pub fn is_counter(rec: &Record, line: u8, column: u8) -> bool {
-    let cell = model::shown_cell(rec, line, column);
+pub fn is_counter(rec: &Record, panel: Panel, line: u8, column: u8) -> bool {
+    let cell = model::shown_cell(rec, panel, line, column);
     cell.map(Counter::Display) == Some(rec.counter)
 }
 
-/// Does some position of the glass show this display cell? "position p shows cell
-/// (p + shift) modulo L of its line. N=0 drives line 1 only". D is not looked at.
-pub fn is_shown(rec: &Record, size: Size, cell: u8) -> bool {
-    (0..size.lines).any(|line| {
-        (0..size.columns).any(|column| model::shown_cell(rec, line, column) == Some(cell))
-    })
+/// Does some position of the glass show this display cell? D is not looked at.
+pub fn is_shown(rec: &Record, panel: Panel, cell: u8) -> bool {
+    let Size { columns, lines } = size_of(panel);
+    let shows = |line, column| model::shown_cell(rec, panel, line, column) == Some(cell);
+    (0..lines).any(|line| (0..columns).any(|column| shows(line, column)))
 }
 
 fn listed(

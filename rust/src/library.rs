@@ -5,7 +5,7 @@
 //! that is written overlaps no other.
 
 use crate::calls::Calls;
-use crate::model::Size;
+use crate::model::Panel;
 
 extern "C" {
     fn yaropesk_reset(
@@ -30,6 +30,7 @@ extern "C" {
         record_length: usize,
         memory: *const u8,
         memory_length: usize,
+        profile: u8,
         columns: u8,
         lines: u8,
         lit: u8,
@@ -102,7 +103,7 @@ impl Calls for Library {
     }
 
     #[inline]
-    fn picture(&self, record: &[u8], memory: &[u8], size: Size, lit: u8, out: &mut [u8]) -> u32 {
+    fn picture(&self, record: &[u8], memory: &[u8], panel: Panel, lit: u8, out: &mut [u8]) -> u32 {
         let out_length = out.len();
         // SAFETY: the output overlaps no other slice, and each has its own length.
         unsafe {
@@ -111,8 +112,9 @@ impl Calls for Library {
                 record.len(),
                 memory.as_ptr(),
                 memory.len(),
-                size.columns,
-                size.lines,
+                panel.profile,
+                panel.size.columns,
+                panel.size.lines,
                 lit,
                 out.as_mut_ptr(),
                 out_length,

@@ -4,7 +4,7 @@ use std::fs;
 use std::path::{Path, PathBuf};
 
 use yaropesk_model::drawing::{Asked, DRAWING, FORMS};
-use yaropesk_model::model::Size;
+use yaropesk_model::model::Panel;
 
 /// What the words ask for.
 fn wanted<'a>(mut words: impl Iterator<Item = &'a str>) -> Asked {
@@ -18,12 +18,15 @@ fn wanted<'a>(mut words: impl Iterator<Item = &'a str>) -> Asked {
         let mut number = || words.next().and_then(|next| next.parse().ok());
         match word {
             "--until" => asked.until = Some(number().expect("a number of transfers")),
+            "--divided" => asked.panel = Panel::DIVIDED,
             "--khz" => asked.frequency = Some(number().expect("a frequency") as u16),
             _ => numbers.push(word.parse().expect("a number")),
         }
     }
-    if let [columns, lines] = numbers[..] {
-        asked.size = Size::new(columns, lines);
+    match numbers[..] {
+        [20, 4] => asked.panel = Panel::FOUR_ROWS,
+        [columns, lines] => asked.panel = Panel::plain(columns, lines),
+        _ => {}
     }
     asked
 }

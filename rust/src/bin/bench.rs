@@ -22,7 +22,7 @@ use yaropesk_model::calls::{Calls, MODEL};
 use yaropesk_model::imports::{Import, Imported};
 use yaropesk_model::library::Library;
 use yaropesk_model::model::capture::{E, SIGNALS};
-use yaropesk_model::model::{self, Half, Record, Size, Transfer, Wish};
+use yaropesk_model::model::{self, Half, Panel, Record, Transfer, Wish};
 use yaropesk_model::model::{DATA_READ, DATA_WRITE, INSTRUCTION_WRITE, STATUS_READ};
 use yaropesk_model::model::{LINE_BYTES, MEMORY, PLAN_BYTES, SESSION_BYTES};
 use yaropesk_model::model::{TRANSFER_BYTES, USUAL_KHZ};
@@ -204,12 +204,12 @@ fn panels() -> Vec<([u8; RECORD_BYTES], Vec<u8>)> {
 }
 
 #[inline(always)]
-fn draw(calls: &impl Calls, panels: &[([u8; RECORD_BYTES], Vec<u8>)], size: Size) -> u64 {
-    let mut out = vec![0; model::picture_bytes(&start(8), size)];
+fn draw(calls: &impl Calls, panels: &[([u8; RECORD_BYTES], Vec<u8>)], panel: Panel) -> u64 {
+    let mut out = vec![0; model::picture_bytes(&start(8), panel.size)];
     let mut sum = 0;
     for _ in 0..PICTURES / PANELS {
         for (record, memory) in black_box(panels) {
-            let answer = calls.picture(record, memory, size, 1, &mut out);
+            let answer = calls.picture(record, memory, panel, 1, &mut out);
             sum += u64::from(answer) + u64::from(black_box(&out)[17]);
         }
     }
@@ -219,12 +219,12 @@ fn draw(calls: &impl Calls, panels: &[([u8; RECORD_BYTES], Vec<u8>)], size: Size
 fn measure_pictures(table: &Table) {
     let panels = panels();
     for columns in [16, 20] {
-        let size = Size::new(columns, 2);
+        let panel = Panel::plain(columns, 2);
         table.measure(
             &format!("pictures, {columns} x 2"),
             PICTURES as f64,
-            || draw(&Library, &panels, size),
-            || draw(&MODEL, &panels, size),
+            || draw(&Library, &panels, panel),
+            || draw(&MODEL, &panels, panel),
         );
     }
 }

@@ -7,18 +7,20 @@
 //! Every call goes to both sides with the same bytes; what they return and all the
 //! bytes they were lent must be equal. On a difference the call is made simpler, shown
 //! with both outcomes, and the exit is 1. Every answer that a function can give must
-//! have come up, and the ends of a frequency's range in every record and wish, or the run
-//! fails. With `--wrong` a deliberately wrong model takes the
+//! have come up, the ends of a frequency's range in every record and wish, and every
+//! profile, or the run fails. With `--wrong` a deliberately wrong model takes the
 //! model's place, and the exit is 1 once it is found out; `--wrong=all` tries each, and
 //! the exit is 0 if all were found out. Imports are compared by `compare_captures`.
 
+use std::collections::BTreeSet;
+
 use yaropesk_model::calls::{answer_of, Model, MODEL};
-use yaropesk_model::case::{Case, Function, Outcome, FUNCTIONS};
+use yaropesk_model::case::{Case, Function, Met, Outcome, FUNCTIONS};
 use yaropesk_model::demand::Trial;
 use yaropesk_model::library::Library;
 use yaropesk_model::model::Answer;
 use yaropesk_model::options::Options;
-use yaropesk_model::random::{self, Chance, FREQUENCY_EDGES, SEED};
+use yaropesk_model::random::{self, Chance, FREQUENCY_EDGES, PROFILES, SEED};
 use yaropesk_model::tally::Tally;
 use yaropesk_model::wrong;
 
@@ -30,13 +32,24 @@ const SEQUENCES: u64 = 200;
 const SEQUENCE_TRANSFERS: u64 = 2_000;
 const TRIALS: u64 = 1_000;
 
-/// The model beside the library, how often each function has given each answer, and which of
-/// the frequencies that must come up were in what it was lent.
+/// The model beside the library, how often each function has given each answer, and what it
+/// has met.
 struct Comparison {
     model: Model,
     seed: u64,
     counts: [Tally; FUNCTIONS.len()],
-    frequencies: [[bool; FREQUENCY_EDGES.len()]; FUNCTIONS.len()],
+    met: [BTreeSet<Met>; FUNCTIONS.len()],
+}
+
+/// What must come up in the calls of a function.
+fn to_meet(function: Function) -> Vec<Met> {
+    let frequencies = FREQUENCY_EDGES.map(Met::Frequency);
+    let profiles = PROFILES.map(Met::Profile);
+    match function {
+        Function::Reset | Function::Transfer | Function::Plan => frequencies.to_vec(),
+        Function::Picture => [&frequencies[..], &profiles[..]].concat(),
+        Function::WriteLine | Function::ReadLine => Vec::new(),
+    }
 }
 
 /// Why a run stops, ready to be shown.
@@ -51,11 +64,7 @@ impl Comparison {
         }
         let function = case.function as usize;
         self.counts[function].count(answer_of(ours.returned));
-        let frequency = case.frequency();
-        let met = |edge: &u16| Some(*edge) == frequency;
-        if let Some(at) = FREQUENCY_EDGES.iter().position(met) {
-            self.frequencies[function][at] = true;
-        }
+        self.met[function].extend(case.meets());
         Ok(ours)
     }
 
@@ -142,14 +151,15 @@ impl Comparison {
         Ok(())
     }
 
-    /// Every function that is lent a record or a wish has met all these frequencies.
-    fn all_frequencies_seen(&self) -> Stop {
-        for function in FUNCTIONS.into_iter().filter(|each| each.has_frequency()) {
-            let seen = self.frequencies[function as usize];
-            let missed = FREQUENCY_EDGES.iter().zip(seen).find(|(_, seen)| !seen);
-            if let Some((edge, _)) = missed {
-                let name = function.name();
-                return Err(format!("{name} has not met the frequency {edge}"));
+    /// Every function has met what it must.
+    fn all_met(&self) -> Stop {
+        for function in FUNCTIONS {
+            let met = &self.met[function as usize];
+            let missed = to_meet(function)
+                .into_iter()
+                .find(|each| !met.contains(each));
+            if let Some(missed) = missed {
+                return Err(format!("{} has not met {missed:?}", function.name()));
             }
         }
         Ok(())
@@ -162,7 +172,7 @@ impl Comparison {
         self.sequences()?;
         self.trials()?;
         self.all_answers_seen()?;
-        self.all_frequencies_seen()
+        self.all_met()
     }
 
     fn counted(&self, function: Function) -> String {
@@ -177,7 +187,7 @@ fn compare(model: Model, seed: u64, calls: u64) -> bool {
         model,
         seed,
         counts: Default::default(),
-        frequencies: Default::default(),
+        met: Default::default(),
     };
     let stop = comparison.run(calls);
     if let Err(why) = &stop {

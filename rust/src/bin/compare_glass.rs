@@ -4,7 +4,7 @@
 //! compare_glass PROGRAM [SEED] [RUNS] [--wrong | --wrong=NAME | --wrong=all]
 //! ```
 //!
-//! Each run has a text, a size of the glass, a form and at times a number of transfers and a
+//! Each run has a text, a panel, a form and at times a number of transfers and a
 //! frequency; every byte that PROGRAM writes to standard output and standard error must be
 //! the drawing's, but for the words in which a bad line is told behind its place. On a
 //! difference text and size are made smaller, both drawings shown, and the exit is 1. With
@@ -15,7 +15,8 @@ use std::fmt::{self, Display, Formatter};
 
 use yaropesk_model::calls::MODEL;
 use yaropesk_model::drawing::{Asked, Drawing, Form, DRAWING, FORMS, USUAL};
-use yaropesk_model::model::{Half, Size, SESSION_BYTES, USUAL_KHZ};
+use yaropesk_model::model::{Half, Panel, Size, SESSION_BYTES, USUAL_KHZ};
+use yaropesk_model::model::{DIVIDED, PLAIN};
 use yaropesk_model::options::Options;
 use yaropesk_model::programs::{frequency_words, run, show, shrink, Ran, Written};
 use yaropesk_model::random::{asked_frequency, random_panel_text, Chance, SEED};
@@ -40,26 +41,27 @@ impl Wanted {
         Wanted { asked, words }
     }
 
-    /// Any size and form, the usual sizes more often; in some runs a number of transfers and
+    /// Any panel and form, the usual sizes more often; in some runs a number of transfers and
     /// a frequency; the words in any order, and what need not be said at times not said.
     fn random(chance: &mut Chance) -> Wanted {
         let any = chance.between(1, 40) as u8;
         let columns = chance.pick(&[1, 16, 20, 40, any, any, any, any]);
+        let plain = Panel::plain(columns, chance.pick(&[1, 2]));
         let most = chance.between(0, 60) as usize;
         let asked = Asked {
-            size: Size::new(columns, chance.pick(&[1, 2])),
+            panel: chance.pick(&[plain, plain, plain, Panel::FOUR_ROWS, Panel::DIVIDED]),
             form: chance.pick(&FORMS),
             until: chance.percent(25).then_some(most),
             frequency: asked_frequency(chance),
         };
-        let [mut size, mut form, until, frequency] = said(&asked);
-        if asked.size == USUAL && chance.percent(50) {
-            size.clear();
+        let [mut panel, mut form, until, frequency] = said(&asked);
+        if asked.panel == USUAL && chance.percent(50) {
+            panel.clear();
         }
         if asked.form == Form::Dots && chance.percent(50) {
             form.clear();
         }
-        let mut words = [size, form, until, frequency];
+        let mut words = [panel, form, until, frequency];
         for at in 1..words.len() {
             words.swap(at, chance.index(at + 1));
         }
@@ -68,19 +70,28 @@ impl Wanted {
     }
 
     /// The same of a smaller glass.
-    fn sized(&self, size: Size) -> Wanted {
-        Wanted::new(Asked { size, ..self.asked })
+    fn sized(&self, columns: u8, lines: u8) -> Wanted {
+        let panel = Panel::plain(columns, lines);
+        Wanted::new(Asked {
+            panel,
+            ..self.asked
+        })
     }
 }
 
-/// The words for the size, the form, the number of transfers and the frequency.
+/// The words for the panel, the form, the number of transfers and the frequency. Four rows are
+/// asked for by their size, the divided row by its word alone.
 fn said(asked: &Asked) -> [Vec<String>; 4] {
-    let Size { columns, lines } = asked.size;
+    let Panel { profile, size } = asked.panel;
+    let panel = match profile {
+        DIVIDED => vec![String::from("--divided")],
+        _ => vec![size.columns.to_string(), size.lines.to_string()],
+    };
     let until = asked
         .until
         .map(|most| [String::from("--until"), most.to_string()]);
     [
-        vec![columns.to_string(), lines.to_string()],
+        panel,
         vec![String::from(asked.form.word())],
         until.into_iter().flatten().collect(),
         frequency_words(asked.frequency),
@@ -114,13 +125,14 @@ impl Pair<'_> {
         !self.program_writes(wanted, text).is(&due)
     }
 
-    /// The smallest glass on which they still differ.
+    /// The smallest glass on which they still differ; profiles of fixed size stay.
     fn smallest(&self, wanted: &Wanted, text: &[u8]) -> Wanted {
-        let Size { columns, lines } = wanted.asked.size;
-        let sizes = (1..=lines)
-            .flat_map(|lines| (1..=columns).map(move |columns| Size::new(columns, lines)));
-        sizes
-            .map(|size| wanted.sized(size))
+        let Panel { profile, size } = wanted.asked.panel;
+        let Size { columns, lines } = size;
+        let smaller = (1..=lines)
+            .flat_map(|lines| (1..=columns).map(move |columns| wanted.sized(columns, lines)));
+        smaller
+            .filter(|_| profile == PLAIN)
             .find(|smaller| self.differs(smaller, text))
             .unwrap_or_else(|| wanted.clone())
     }
@@ -147,6 +159,7 @@ impl Pair<'_> {
 #[derive(Default)]
 struct Reached {
     forms: [u64; 5],
+    profiles: [u64; 3],
     bounded: u64,
     tuned: u64,
     refused: u64,
@@ -159,12 +172,13 @@ struct Reached {
 impl Reached {
     fn count(&mut self, wanted: &Wanted, text: &[u8]) {
         let Asked {
+            panel,
             form,
             until,
             frequency,
-            ..
         } = wanted.asked;
         self.forms[form as usize] += 1;
+        self.profiles[usize::from(panel.profile)] += 1;
         if text.len() > SESSION_BYTES {
             self.too_long += 1;
             return;
@@ -182,10 +196,11 @@ impl Reached {
 impl Display for Reached {
     fn fmt(&self, to: &mut Formatter) -> fmt::Result {
         let [dots, blocks, letters, bitmap, cells] = self.forms;
+        let [plain, four_rows, divided] = self.profiles;
         writeln!(
             to,
             "dots {dots}, blocks {blocks}, letters {letters}, bitmap {bitmap}, cells {cells}; \
-             so many transfers only {}, a frequency named {}",
+             plain {plain}, four rows {four_rows}, divided {divided}; so many transfers only {}, a frequency named {}",
             self.bounded, self.tuned
         )?;
         write!(

@@ -23,7 +23,7 @@ pub const NO_CELL: Answer = 6;
 pub const STALE: Answer = 7;
 /// "crossed halves, done"
 pub const CROSSED: Answer = 8;
-/// "columns or lines out of range"
+/// "columns or lines out of range". Request e: "an unknown profile is 10".
 pub const OUT_OF_RANGE: Answer = 10;
 /// "output too short"
 pub const TOO_SHORT: Answer = 11;

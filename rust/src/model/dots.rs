@@ -1,4 +1,4 @@
-//! Document 01, "The dots".
+//! Document 01, "The dots", and document 02, e) "Four rows and the divided row".
 
 use super::record::place;
 use super::{is_sound, Answer, Counter, Record, MEMORY};
@@ -13,7 +13,7 @@ pub fn shape(font: &[u8; FONT], code: u8) -> &[u8] {
     &font[usize::from(code) * SHAPE_ROWS..][..SHAPE_ROWS]
 }
 
-/// The size of a panel.
+/// Columns and lines.
 #[derive(Clone, Copy, Debug, PartialEq, Eq)]
 pub struct Size {
     pub columns: u8,
@@ -28,6 +28,64 @@ impl Size {
     /// "Columns 1 to 40, lines 1 or 2."
     fn is_in_range(self) -> bool {
         (1..=40).contains(&self.columns) && (1..=2).contains(&self.lines)
+    }
+}
+
+/// "profile 0 plain, 1 the 20 x 4 panel, 2 the divided 16 x 1 row".
+pub const PLAIN: u8 = 0;
+pub const FOUR_ROWS: u8 = 1;
+pub const DIVIDED: u8 = 2;
+
+/// A panel: its profile, and the size that is asked for. "1 and 2 take no notice of columns
+/// and lines": "profiles of fixed size beside the plain geometry".
+#[derive(Clone, Copy, Debug, PartialEq, Eq)]
+pub struct Panel {
+    pub profile: u8,
+    pub size: Size,
+}
+
+impl Panel {
+    /// "The cabinet's new panel has 20 columns and four rows."
+    pub const FOUR_ROWS: Panel = Panel {
+        profile: FOUR_ROWS,
+        size: Size::new(20, 4),
+    };
+
+    /// "The hall signs are 16 columns in one row".
+    pub const DIVIDED: Panel = Panel {
+        profile: DIVIDED,
+        size: Size::new(16, 1),
+    };
+
+    pub const fn plain(columns: u8, lines: u8) -> Panel {
+        Panel {
+            profile: PLAIN,
+            size: Size::new(columns, lines),
+        }
+    }
+
+    /// The size of its glass, if it has one: "an unknown profile is 10", and so are "columns
+    /// or lines out of range".
+    pub fn glass(self) -> Option<Size> {
+        match self.profile {
+            PLAIN => Some(self.size).filter(|size| size.is_in_range()),
+            FOUR_ROWS => Some(Panel::FOUR_ROWS.size),
+            DIVIDED => Some(Panel::DIVIDED.size),
+            _ => None,
+        }
+    }
+
+    /// The address at which the positions start that this one follows, and how many are
+    /// before it. "Rows 1 and 2 start at 00h and 40h, rows 3 and 4 at 14h and 54h"; of the
+    /// hall signs, "columns 9 to 16 start at 40h". The plain lines are rows 1 and 2.
+    pub fn start(self, line: u8, column: u8) -> (u8, u8) {
+        match (self.profile, line) {
+            (DIVIDED, _) if column >= 8 => (0x40, column - 8),
+            (_, 0) => (0x00, column),
+            (_, 1) => (0x40, column),
+            (_, 2) => (0x14, column),
+            _ => (0x54, column),
+        }
     }
 }
 
@@ -47,7 +105,20 @@ pub fn picture_bytes(rec: &Record, size: Size) -> usize {
 pub fn picture(
     rec: &Record,
     mem: &[u8],
-    size: Size,
+    panel: Panel,
+    lit: bool,
+    out: &mut [u8],
+    font: &[u8; FONT],
+) -> Answer {
+    picture_by(shown_cell, rec, mem, panel, lit, out, font)
+}
+
+/// The same with a geometry of the caller's, in the place of `shown_cell`.
+pub fn picture_by(
+    shows: impl Fn(&Record, Panel, u8, u8) -> Option<u8>,
+    rec: &Record,
+    mem: &[u8],
+    panel: Panel,
     lit: bool,
     out: &mut [u8],
     font: &[u8; FONT],
@@ -58,9 +129,9 @@ pub fn picture(
     if mem.len() != MEMORY {
         return WRONG_LENGTH;
     }
-    if !size.is_in_range() {
+    let Some(size) = panel.glass() else {
         return OUT_OF_RANGE;
-    }
+    };
     if out.len() < picture_bytes(rec, size) {
         return TOO_SHORT;
     }
@@ -73,7 +144,7 @@ pub fn picture(
                 let above = usize::from(line) * usize::from(height) + usize::from(row);
                 let at = above * usize::from(size.columns) + usize::from(column);
                 // "N=0 drives line 1 only, line 2 is zero." "D=0: all zero."
-                out[at] = match shown_cell(rec, line, column) {
+                out[at] = match shows(rec, panel, line, column) {
                     Some(cell) if rec.d => dots(rec, mem, cell, row, lit, font),
                     _ => 0,
                 };
@@ -92,15 +163,25 @@ pub const fn line_length(n: bool) -> u8 {
     }
 }
 
-/// The display cell at a position: "position p shows cell (p + shift) modulo L of its
-/// line. N=0 drives line 1 only".
-pub fn shown_cell(rec: &Record, line: u8, column: u8) -> Option<u8> {
+/// The display cell at a position, if one is shown there.
+pub fn shown_cell(rec: &Record, panel: Panel, line: u8, column: u8) -> Option<u8> {
+    let (start, before) = panel.start(line, column);
+    cell_after(rec, start, before)
+}
+
+/// The display cell at the position with so many before it that start at an address:
+/// "position p shows cell (p + shift) modulo L of its line", and "shifting turns each 40-cell
+/// line as before." "With N=0 the positions that start at 40h or 54h are zero, and the others
+/// read their cell plus shift modulo 80."
+pub fn cell_after(rec: &Record, start: u8, before: u8) -> Option<u8> {
     const ONE_LINE: u8 = line_length(false);
     const EACH_OF_TWO: u8 = line_length(true);
-    match (rec.n, line) {
-        (false, 0) => Some((column + rec.shift) % ONE_LINE),
+    // The second of the controller's lines begins at 40h.
+    let (second, position) = (start / 0x40, start % 0x40 + before);
+    match (rec.n, second) {
+        (false, 0) => Some((position + rec.shift) % ONE_LINE),
         (false, _) => None,
-        (true, _) => Some(line * EACH_OF_TWO + (column + rec.shift) % EACH_OF_TWO),
+        (true, _) => Some(second * EACH_OF_TWO + (position + rec.shift) % EACH_OF_TWO),
     }
 }
 

@@ -7,8 +7,9 @@ use super::wishes::{marks, wish};
 use super::Chance;
 use crate::bytes::{record_bytes, record_of, FREQUENCY_AT, RECORD_BYTES};
 use crate::case::{Case, Function};
-use crate::model::{picture_bytes, record_after_reset, Record, Size};
+use crate::model::{picture_bytes, record_after_reset, Panel, Record, Size};
 use crate::model::{DATA_READ, DATA_WRITE, INSTRUCTION_WRITE, STATUS_READ};
+use crate::model::{DIVIDED, FOUR_ROWS, PLAIN};
 use crate::model::{LINE_BYTES, MEMORY, PLAN_BYTES, TRANSFER_BYTES};
 use crate::model::{LONGEST_BUSY, LONG_TIME, SHORT_TIME, USUAL_KHZ};
 
@@ -95,7 +96,7 @@ pub fn next_transfer(chance: &mut Chance, standing: Vec<Vec<u8>>) -> Case {
     let byte = byte(chance, kind);
     Case {
         function: Function::Transfer,
-        numbers: [kind.into(), byte.into(), wait(chance, busy)],
+        numbers: [kind.into(), byte.into(), wait(chance, busy), 0],
         buffers: standing,
     }
 }
@@ -110,7 +111,7 @@ fn reset(chance: &mut Chance) -> Case {
     Case {
         function: Function::Reset,
         buffers: vec![record, memory(chance)],
-        numbers: [0; 3],
+        numbers: [0; 4],
     }
 }
 
@@ -131,17 +132,36 @@ fn size(chance: &mut Chance) -> Size {
     }
 }
 
-fn picture(chance: &mut Chance) -> Case {
+/// The profiles that every comparison must meet: the known ones, the first that is not, and
+/// the last.
+pub const PROFILES: [u8; 5] = [PLAIN, FOUR_ROWS, DIVIDED, 3, u8::MAX];
+
+/// A panel of any profile, now and then of an unknown one. Sizes are said of all.
+fn panel(chance: &mut Chance) -> Panel {
+    let (known, any) = (chance.pick(&PROFILES[..3]), chance.byte());
+    let profile = match chance.below(100) {
+        0..=29 => PLAIN,
+        30..=95 => known,
+        96..=98 => chance.pick(&PROFILES),
+        _ => any,
+    };
     let size = size(chance);
+    Panel { profile, size }
+}
+
+fn picture(chance: &mut Chance) -> Case {
+    let panel = panel(chance);
     let lit = chance.pick(&[0, 0, 1, 1, 2, 255]);
     let (record, memory) = (record(chance), memory(chance));
     // What is no record wants as many bytes as one after reset.
     let found = record_of(&record).unwrap_or(record_after_reset(USUAL_KHZ));
-    let out = output(chance, picture_bytes(&found, size));
+    let glass = panel.glass().unwrap_or(panel.size);
+    let out = output(chance, picture_bytes(&found, glass));
+    let Panel { profile, size } = panel;
     Case {
         function: Function::Picture,
         buffers: vec![record, memory, out],
-        numbers: [size.columns.into(), size.lines.into(), lit],
+        numbers: [profile.into(), size.columns.into(), size.lines.into(), lit],
     }
 }
 
@@ -150,7 +170,7 @@ fn plan(chance: &mut Chance) -> Case {
     Case {
         function: Function::Plan,
         buffers: vec![wish, marks, memory(chance), output(chance, PLAN_BYTES)],
-        numbers: [0; 3],
+        numbers: [0; 4],
     }
 }
 
@@ -164,7 +184,7 @@ fn write_line(chance: &mut Chance) -> Case {
     Case {
         function: Function::WriteLine,
         buffers: vec![output(chance, LINE_BYTES)],
-        numbers: [kind.into(), byte.into(), lines::wait(chance)],
+        numbers: [kind.into(), byte.into(), lines::wait(chance), 0],
     }
 }
 
@@ -188,7 +208,7 @@ fn read_text(chance: &mut Chance, text: Vec<u8>) -> Case {
     Case {
         function: Function::ReadLine,
         buffers: vec![text, output(chance, TRANSFER_BYTES)],
-        numbers: [0; 3],
+        numbers: [0; 4],
     }
 }
 
@@ -208,7 +228,7 @@ pub fn kind_and_byte(chance: &mut Chance, kind: u8, byte: u8) -> [Case; 2] {
         busy: 0,
         ..sound_record(chance)
     };
-    let numbers = [kind.into(), byte.into(), lines::wait(chance)];
+    let numbers = [kind.into(), byte.into(), lines::wait(chance), 0];
     let transfer = Case {
         function: Function::Transfer,
         buffers: vec![record_bytes(&record).to_vec(), whole_memory(chance)],
@@ -229,6 +249,6 @@ pub fn reset_of_anything(chance: &mut Chance) -> Case {
     Case {
         function: Function::Reset,
         buffers: vec![record, chance.bytes(MEMORY)],
-        numbers: [0; 3],
+        numbers: [0; 4],
     }
 }

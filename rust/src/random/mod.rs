@@ -12,6 +12,7 @@ mod records;
 mod texts;
 mod wishes;
 
+pub use calls::PROFILES;
 pub use captures::{first_stamp, random_capture, session_to_capture, sound_capture};
 pub use chance::{Chance, SEED};
 pub use damage::every_damage;

@@ -1,48 +1,49 @@
 //! Wrong readings of document 01's chapter "The dots".
 
 use crate::calls::Painter;
-use crate::model::{self, Answer, Record, Size, FONT};
+use crate::model::{self, Answer, Panel, Record, FONT};
 
 /// With N=0 a panel of two lines is drawn as with N=1.
 fn second_line_drawn(
     record: &Record,
     memory: &[u8],
-    size: Size,
+    panel: Panel,
     lit: bool,
     out: &mut [u8],
     font: &[u8; FONT],
 ) -> Answer {
     let two_lines = Record {
-        n: record.n || size.lines == 2,
+        n: record.n || panel.size.lines == 2,
         ..*record
     };
-    model::picture(&two_lines, memory, size, lit, out, font)
+    model::picture(&two_lines, memory, panel, lit, out, font)
 }
 
 /// The blinking place is lit in both phases.
 fn always_lit(
     record: &Record,
     memory: &[u8],
-    size: Size,
+    panel: Panel,
     _lit: bool,
     out: &mut [u8],
     font: &[u8; FONT],
 ) -> Answer {
-    model::picture(record, memory, size, true, out, font)
+    model::picture(record, memory, panel, true, out, font)
 }
 
 /// One byte past the picture is overwritten.
 fn picture_runs_over(
     record: &Record,
     memory: &[u8],
-    size: Size,
+    panel: Panel,
     lit: bool,
     out: &mut [u8],
     font: &[u8; FONT],
 ) -> Answer {
-    let answer = model::picture(record, memory, size, lit, out, font);
-    let wanted = model::picture_bytes(record, size);
-    if let (model::DONE, Some(past)) = (answer, out.get_mut(wanted)) {
+    let answer = model::picture(record, memory, panel, lit, out, font);
+    let wanted = panel.glass().map(|size| model::picture_bytes(record, size));
+    let past = wanted.and_then(|wanted| out.get_mut(wanted));
+    if let (model::DONE, Some(past)) = (answer, past) {
         *past = 0;
     }
     answer

@@ -2,7 +2,8 @@
 
 use crate::drawing::{self, Blocker, Dot, Drawing, Grid, Gridder, Inker, Pointer};
 use crate::drawing::{Speller, Teller, Watcher, DRAWING};
-use crate::model::{self, line_length, Counter, Half, Played, Record, Size, USUAL_KHZ};
+use crate::model::USUAL_KHZ;
+use crate::model::{self, line_length, Counter, Half, Panel, Played, Record, Size};
 use crate::wrong::{each, of_calls};
 
 /// Each character's dots run from right to left.
@@ -57,47 +58,47 @@ fn quarters_lost(quarters: [bool; 4]) -> char {
 }
 
 /// A pattern reads as the digit of its number.
-fn patterns_as_digits(played: &Played, line: u8, column: u8) -> char {
-    match model::shown_cell(&played.rec, line, column) {
+fn patterns_as_digits(played: &Played, panel: Panel, line: u8, column: u8) -> char {
+    match model::shown_cell(&played.rec, panel, line, column) {
         Some(cell) if played.rec.d && played.mem[usize::from(cell)] < 0x10 => {
             char::from(b'0' + played.mem[usize::from(cell)] % 8)
         }
-        _ => drawing::reads(played, line, column),
+        _ => drawing::reads(played, panel, line, column),
     }
 }
 
 /// Letters are read with the display off too.
-fn read_while_off(played: &Played, line: u8, column: u8) -> char {
-    let cell = model::shown_cell(&played.rec, line, column);
+fn read_while_off(played: &Played, panel: Panel, line: u8, column: u8) -> char {
+    let cell = model::shown_cell(&played.rec, panel, line, column);
     cell.map_or(' ', |cell| drawing::letter(played.mem[usize::from(cell)]))
 }
 
 /// The caret is there with C=1 or B=1 only.
-fn caret_of_a_cursor(rec: &Record, line: u8, column: u8) -> bool {
-    (rec.c || rec.b) && drawing::is_counter(rec, line, column)
+fn caret_of_a_cursor(rec: &Record, panel: Panel, line: u8, column: u8) -> bool {
+    (rec.c || rec.b) && drawing::is_counter(rec, panel, line, column)
 }
 
 /// A counter on a pattern cell is taken for one on a display cell.
-fn caret_of_a_pattern(rec: &Record, line: u8, column: u8) -> bool {
+fn caret_of_a_pattern(rec: &Record, panel: Panel, line: u8, column: u8) -> bool {
     let cell = match rec.counter {
         Counter::Display(cell) | Counter::Pattern(cell) => cell,
     };
-    model::shown_cell(rec, line, column) == Some(cell)
+    model::shown_cell(rec, panel, line, column) == Some(cell)
 }
 
 /// The last display cell counts as shown on every glass.
-fn last_cell_unmarked(rec: &Record, size: Size, cell: u8) -> bool {
-    cell == 79 || drawing::is_shown(rec, size, cell)
+fn last_cell_unmarked(rec: &Record, panel: Panel, cell: u8) -> bool {
+    cell == 79 || drawing::is_shown(rec, panel, cell)
 }
 
 /// The shift is forgotten where cells are marked.
-fn marked_unshifted(rec: &Record, size: Size, cell: u8) -> bool {
-    drawing::is_shown(&Record { shift: 0, ..*rec }, size, cell)
+fn marked_unshifted(rec: &Record, panel: Panel, cell: u8) -> bool {
+    drawing::is_shown(&Record { shift: 0, ..*rec }, panel, cell)
 }
 
 /// The cells behind a second line are marked as if it were driven with N=0 too.
-fn second_line_shown(rec: &Record, size: Size, cell: u8) -> bool {
-    drawing::is_shown(rec, size, cell) || (size.lines == 2 && cell == 40)
+fn second_line_shown(rec: &Record, panel: Panel, cell: u8) -> bool {
+    drawing::is_shown(rec, panel, cell) || (panel.size.lines == 2 && cell == 40)
 }
 
 /// The shift is told modulo the length of a line.

@@ -6,9 +6,9 @@ use crate::given::{font, plain_wish, rows, Bench};
 
 /// The rows at the start of the two lines.
 fn first_column(bench: &Bench) -> Vec<u8> {
-    let size = Size::new(8, 2);
-    let mut out = vec![0xEE; picture_bytes(&bench.rec, size)];
-    let answer = picture(&bench.rec, &bench.mem, size, false, &mut out, &font());
+    let panel = Panel::plain(8, 2);
+    let mut out = vec![0xEE; picture_bytes(&bench.rec, panel.size)];
+    let answer = picture(&bench.rec, &bench.mem, panel, false, &mut out, &font());
     assert_eq!(answer, DONE);
     out.into_iter().step_by(8).collect()
 }

@@ -9,7 +9,7 @@ fn picture_refuses() {
     let (rec, mem) = ready();
     let font = font();
     let mut out = [0xEE; 640];
-    let none = Size::new(0, 0);
+    let none = Panel::plain(0, 0);
     for unsound in unsound_records() {
         let answer = picture(&unsound, &mem[1..], none, true, &mut out, &font);
         assert_eq!(answer, UNSOUND);
@@ -17,17 +17,17 @@ fn picture_refuses() {
     let answer = picture(&rec, &mem[1..], none, true, &mut out, &font);
     assert_eq!(answer, WRONG_LENGTH);
     for (columns, lines) in [(0, 1), (41, 1), (1, 0), (1, 3), (255, 255)] {
-        let (size, empty) = (Size::new(columns, lines), &mut out[..0]);
-        let answer = picture(&rec, &mem, size, true, empty, &font);
+        let (panel, empty) = (Panel::plain(columns, lines), &mut out[..0]);
+        let answer = picture(&rec, &mem, panel, true, empty, &font);
         assert_eq!(answer, OUT_OF_RANGE);
     }
     for (columns, lines, wanted) in [(1, 1, 8), (40, 2, 640), (16, 2, 256)] {
-        let (size, short) = (Size::new(columns, lines), &mut out[..wanted - 1]);
-        assert_eq!(picture(&rec, &mem, size, true, short, &font), TOO_SHORT);
+        let (panel, short) = (Panel::plain(columns, lines), &mut out[..wanted - 1]);
+        assert_eq!(picture(&rec, &mem, panel, true, short, &font), TOO_SHORT);
     }
     assert_eq!(out, [0xEE; 640]);
     // D=0: zeros over exactly the picture's bytes.
-    let usual = Size::new(16, 2);
+    let usual = Panel::plain(16, 2);
     assert_eq!(picture(&rec, &mem, usual, true, &mut out, &font), DONE);
     assert_eq!(out[..256], [0; 256]);
     assert_eq!(out[256..], [0xEE; 384]);
@@ -49,7 +49,7 @@ fn two_lines() -> Record {
 fn two_by_two(rec: &Record, lit: bool) -> [u8; 32] {
     let (_, mem) = ready();
     let mut out = [0xEE; 32];
-    let answer = picture(rec, &mem, Size::new(2, 2), lit, &mut out, &font());
+    let answer = picture(rec, &mem, Panel::plain(2, 2), lit, &mut out, &font());
     assert_eq!(answer, DONE);
     out
 }

@@ -1,5 +1,6 @@
 //! The model keeps the rules of document 01, a file for each chapter, or a part of one, and of
-//! document 02 request c, `fields` and `damage`, and request d, `oscillator`.
+//! document 02 request c, `fields` and `damage`, request d, `oscillator`, and request e,
+//! `profiles`.
 
 mod bench_cases;
 mod damage;
@@ -12,5 +13,6 @@ mod instructions;
 mod lines;
 mod oscillator;
 mod plan;
+mod profiles;
 mod record;
 mod transfer;
