@@ -2,8 +2,8 @@
 
 use crate::drawing::{self, Blocker, Dot, Drawing, Grid, Gridder, Inker, Pointer};
 use crate::drawing::{Speller, Teller, Watcher, DRAWING};
-use crate::model::USUAL_KHZ;
 use crate::model::{self, line_length, Counter, Half, Panel, Played, Record, Size};
+use crate::model::{DIVIDED, FOUR_ROWS, USUAL_KHZ};
 use crate::wrong::{each, of_calls};
 
 /// Each character's dots run from right to left.
@@ -71,6 +71,37 @@ fn patterns_as_digits(played: &Played, panel: Panel, line: u8, column: u8) -> ch
 fn read_while_off(played: &Played, panel: Panel, line: u8, column: u8) -> char {
     let cell = model::shown_cell(&played.rec, panel, line, column);
     cell.map_or(' ', |cell| drawing::letter(played.mem[usize::from(cell)]))
+}
+
+/// The divided row as a plain one of its size.
+fn undivided(panel: Panel) -> Panel {
+    match panel.profile {
+        DIVIDED => Panel::plain(16, 1),
+        _ => panel,
+    }
+}
+
+/// The divided row is read as a plain one.
+fn read_undivided(played: &Played, panel: Panel, line: u8, column: u8) -> char {
+    drawing::reads(played, undivided(panel), line, column)
+}
+
+/// The caret under the divided row is that of a plain one.
+fn caret_undivided(rec: &Record, panel: Panel, line: u8, column: u8) -> bool {
+    drawing::is_counter(rec, undivided(panel), line, column)
+}
+
+/// Behind the divided row those cells are marked that a plain one does not show.
+fn marked_undivided(rec: &Record, panel: Panel, cell: u8) -> bool {
+    drawing::is_shown(rec, undivided(panel), cell)
+}
+
+/// Of four rows the first two alone count where cells are marked.
+fn marked_of_two_rows(rec: &Record, panel: Panel, cell: u8) -> bool {
+    match panel.profile {
+        FOUR_ROWS => drawing::is_shown(rec, Panel::plain(20, 2), cell),
+        _ => drawing::is_shown(rec, panel, cell),
+    }
 }
 
 /// The caret is there with C=1 or B=1 only.
@@ -165,20 +196,24 @@ const WRONG_BLOCKS: [(&str, Blocker); 2] = [
     ("quarters-lost", quarters_lost),
 ];
 
-const WRONG_LETTERS: [(&str, Speller); 2] = [
+const WRONG_LETTERS: [(&str, Speller); 3] = [
     ("patterns-as-digits", patterns_as_digits),
     ("read-while-off", read_while_off),
+    ("read-undivided", read_undivided),
 ];
 
-const WRONG_CARETS: [(&str, Pointer); 2] = [
+const WRONG_CARETS: [(&str, Pointer); 3] = [
     ("caret-of-a-cursor", caret_of_a_cursor),
     ("caret-of-a-pattern", caret_of_a_pattern),
+    ("caret-undivided", caret_undivided),
 ];
 
-const WRONG_MARKS: [(&str, Watcher); 3] = [
+const WRONG_MARKS: [(&str, Watcher); 5] = [
     ("last-cell-unmarked", last_cell_unmarked),
     ("marked-unshifted", marked_unshifted),
     ("second-line-shown", second_line_shown),
+    ("marked-undivided", marked_undivided),
+    ("marked-of-two-rows", marked_of_two_rows),
 ];
 
 const WRONG_STATES: [(&str, Teller); 6] = [
@@ -191,10 +226,15 @@ const WRONG_STATES: [(&str, Teller); 6] = [
 ];
 
 /// Those of the wrong models that no report shows, and one that alters what is told.
-const WRONG_MODELS: [&str; 4] = [
+const WRONG_MODELS: [&str; 9] = [
     "read-shifts",
     "clear-drops-s",
     "second-line-drawn",
+    "row-3-at-28h",
+    "rows-2-and-3-exchanged",
+    "second-half-at-8",
+    "dark-halves-drawn",
+    "turns-80",
     "times-at-250",
 ];
 
