@@ -95,7 +95,9 @@
 #define YAROPESK_HALF_STATUS_READ 3
 #define YAROPESK_HALF_DATA_READ 4
 
-/* A panel's profile: its columns and lines, and the addresses that they start at, with N=1 and the shift 0. */
+/* A panel's profile: its columns and lines, and the addresses that they start at, with N=1 and the shift 0. With N=1 the
+ * panel of four rows shows every one of the 80 display cells, at every shift: none is spare there, so keep nothing in them
+ * that is not to be seen. */
 #define YAROPESK_PLAIN 0     /* 1 to 40 columns; line 1 at 00h and, where there is one, line 2 at 40h */
 #define YAROPESK_FOUR_ROWS 1 /* 20 columns; lines 1 to 4 at 00h, 40h, 14h and 54h */
 #define YAROPESK_DIVIDED 2   /* 16 columns, one line: columns 1 to 8 at 00h, columns 9 to 16 at 40h */
