@@ -6,6 +6,7 @@ use mathlib.Core.Path.{_≡_, refl, sym, _∙_}
 use Prim.Native.Nat.{ℕ, _-_}
 use native.Mathlib.Omega.{arith}
 use lib.Dec.{leb}
+use borrow.Author.Tests.{leb-true}
 use Rattle.controller.proofs.Laws.Choice.{cond-elim, cond-map}
 use Rattle.controller.specs.declared.cells.Named.{Named}
 use Rattle.controller.specs.declared.cells.Named.the-variants.{Cell, Outside}
@@ -16,7 +17,7 @@ use Rattle.controller.specs.declared.execute.Transfer.the-variants.{Inst
 use Rattle.controller.specs.declared.instruction.Instruction.{Instruction}
 use Rattle.controller.specs.declared.answers.Answer.the-variants.{Done, NotWhole, StaleRead}
 use Rattle.controller.specs.declared.decision.Effect.the-variants.{Blank}
-use Rattle.controller.proofs.Laws.Instruction.{decoded-address, decoded-elim}
+use Rattle.controller.proofs.Laws.Instruction.{decoded-display, decoded-elim}
 use Rattle.controller.proofs.Laws.Answers.{none-applies, row-applies, tells-as}
 use Rattle.controller.proofs.Laws.Rows.{bad-tests, early-tests, first-tests, off-tests, sound-tests, whole-tests}
 use Rattle.controller.proofs.Laws.Tests.{tests-itself}
@@ -48,7 +49,7 @@ unfolding lacksCell executed
 instruct-number mem byte rec = go (leb 0x80 byte) refl
   where
     go : (t : Bool) → leb 0x80 byte ≡ t → numbered (executed mem (decoded byte) rec) ≡ cond (lacksCell rec (Instruct byte)) 6 0
-    go true high = rw (high, decoded-address byte high) (addressed-number mem _ rec)
+    go true high = rw (high, decoded-display byte (leb-true 0x80 byte high)) (addressed-number mem _ rec)
     go false low =
         rw low
         (decoded-elim (λ (i : Instruction). numbered (executed mem i rec) ≡ 0) byte (λ high. absurd (false≢true (sym low ∙ high))) (λ _. refl)

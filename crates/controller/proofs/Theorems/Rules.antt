@@ -4,17 +4,17 @@ use mathlib.Core.Bool.{Bool, true, false, cond, _&&_, and-false}
 use mathlib.Core.List.{List, _++_}
 use mathlib.Core.Logic.{inl, inr}
 use mathlib.Core.Path.{_≡_, refl, sym, ap, subst, _∙_}
-use Prim.Native.Nat.{ℕ, _+_, _-_, _/_, _%_, _≤_, _<_}
+use Prim.Native.Nat.{ℕ, _+_, _-_, _%_, _≤_, _<_}
 use native.Mathlib.Nat.{mod-eq-of-lt}
 use native.Mathlib.Omega.{arith}
 use lib.Dec.{leb, eqb, ltb}
 use lib.ListN.{getD, set, length, replicate, drop, length-replicate, getD-replicate, List·getD-append}
 use lib.Seq.{getD-append-add, getD-drop, getD-set-same, getD-set-other}
-use borrow.Author.Tests.{le-leb, lt-leb, leb-true, eq-eqb, ne-eqb, lt-ltb, le-ltb, ltb-true, ltb-false, eqb-true, eqb-false}
+use borrow.Author.Tests.{leb-true, eq-eqb, ne-eqb, lt-ltb, le-ltb, ltb-true, ltb-false, eqb-true, eqb-false}
 use Rattle.controller.proofs.Laws.Cells.{address-below, named-within, on-display, on-pattern, place-below}
 use Rattle.controller.proofs.Laws.Choice.{cond-elim, cond-map}
 use Rattle.controller.proofs.Laws.Completed.{carried-keeps}
-use Rattle.controller.proofs.Laws.Instruction.{decoded-address}
+use Rattle.controller.proofs.Laws.Instruction.{decoded-nothing, decoded-clear, decoded-home, decoded-entry, decoded-control, decoded-cursor, decoded-shift, decoded-function, decoded-pattern, decoded-display}
 use Rattle.controller.proofs.Laws.Kept.{wide-none}
 use Rattle.controller.proofs.Laws.Record.{sound-counter, sound-half, sound-shift, waited-keeps}
 use Rattle.controller.proofs.Laws.Taken.{accepted-wide, taken, taken-wide}
@@ -29,7 +29,6 @@ use Rattle.controller.specs.Cells.{addOfCell, addressOf, addressSet, byt
 use Rattle.controller.specs.declared.decision.Decision.{Decision}
 use Rattle.controller.specs.declared.decision.Effect.{Effect}
 use Rattle.controller.specs.declared.instruction.Instruction.{Instruction}
-use Rattle.controller.specs.declared.instruction.Instruction.the-variants.{Nothing, Clear, Home, SetEntry, SetControl, MoveCursor, ShiftDisplay, SetFunction, PatternAddress}
 use Rattle.controller.specs.declared.«record».Entry.{Entry}
 use Rattle.controller.specs.declared.«record».Half.the-variants.{Empty}
 use Rattle.controller.specs.declared.«record».Record.{Record}
@@ -43,53 +42,6 @@ use Rattle.controller.specs.Instruction.{bit, decoded}
 use Rattle.controller.specs.Record.{busyOver, waited, withEntry, withShift}
 use Rattle.controller.specs.Rules.{Instructs, DoesNothing, Homes, Clears, GoesHome, SetsEntry, SetsControl, isSet, neighbour, beside, MovesCounter, ShiftsDisplay, SetsFunction, GoesTo, SetsPattern, Names, LacksCell, SetsDisplay, InstructionRules, inDisplay, WritesData, ReadsData, Addresses, ReadsStatus, Wide, DataRules, ReadNeverShifts, StatusAltersNothing, FunctionMovesNothing, ClearLeavesRest, AddressSetGoes, SameFunction, SameControl, SameEntry, SamePlace}
 
--- a byte's range says which row of the table it is
-module _ (byte : ℕ) where
-  -- bit 3 of 10h to 17h and of 18h to 1Fh
-  high-off : 0x10 ≤ byte → byte ≤ 0x17 → bit 0x08 byte ≡ false
-  unfolding bit
-  high-off over under = ne-eqb (byte / 0x08 % 2) 1 (λ e. omega arith)
-
-  high-on : 0x18 ≤ byte → byte ≤ 0x1F → bit 0x08 byte ≡ true
-  unfolding bit
-  high-on over under = eq-eqb (byte / 0x08 % 2) 1 (omega arith)
-
-  is-nothing : byte ≤ 0x00 → decoded byte ≡ Nothing
-  unfolding decoded
-  is-nothing under = rw (lt-leb 0x80 byte (omega arith), lt-leb 0x40 byte (omega arith), lt-leb 0x20 byte (omega arith), lt-leb 0x10 byte (omega arith), lt-leb 0x08 byte (omega arith), lt-leb 0x04 byte (omega arith), lt-leb 0x02 byte (omega arith), lt-leb 0x01 byte (omega arith))
-
-  is-clear : 0x01 ≤ byte → byte ≤ 0x01 → decoded byte ≡ Clear
-  unfolding decoded
-  is-clear over under = rw (lt-leb 0x80 byte (omega arith), lt-leb 0x40 byte (omega arith), lt-leb 0x20 byte (omega arith), lt-leb 0x10 byte (omega arith), lt-leb 0x08 byte (omega arith), lt-leb 0x04 byte (omega arith), lt-leb 0x02 byte (omega arith), le-leb 0x01 byte (omega arith))
-
-  is-home : 0x02 ≤ byte → byte ≤ 0x03 → decoded byte ≡ Home
-  unfolding decoded
-  is-home over under = rw (lt-leb 0x80 byte (omega arith), lt-leb 0x40 byte (omega arith), lt-leb 0x20 byte (omega arith), lt-leb 0x10 byte (omega arith), lt-leb 0x08 byte (omega arith), lt-leb 0x04 byte (omega arith), le-leb 0x02 byte (omega arith))
-
-  is-entry : 0x04 ≤ byte → byte ≤ 0x07 → decoded byte ≡ SetEntry (record { id = bit 0x02 byte; s = bit 0x01 byte })
-  unfolding decoded
-  is-entry over under = rw (lt-leb 0x80 byte (omega arith), lt-leb 0x40 byte (omega arith), lt-leb 0x20 byte (omega arith), lt-leb 0x10 byte (omega arith), lt-leb 0x08 byte (omega arith), le-leb 0x04 byte (omega arith))
-
-  is-control : 0x08 ≤ byte → byte ≤ 0x0F → decoded byte ≡ SetControl (record { d = bit 0x04 byte; c = bit 0x02 byte; b = bit 0x01 byte })
-  unfolding decoded
-  is-control over under = rw (lt-leb 0x80 byte (omega arith), lt-leb 0x40 byte (omega arith), lt-leb 0x20 byte (omega arith), lt-leb 0x10 byte (omega arith), le-leb 0x08 byte (omega arith))
-
-  is-cursor : 0x10 ≤ byte → byte ≤ 0x17 → decoded byte ≡ MoveCursor (bit 0x04 byte)
-  unfolding decoded
-  is-cursor over under = rw (lt-leb 0x80 byte (omega arith), lt-leb 0x40 byte (omega arith), lt-leb 0x20 byte (omega arith), le-leb 0x10 byte (omega arith), high-off (omega arith) (omega arith))
-
-  is-shift : 0x18 ≤ byte → byte ≤ 0x1F → decoded byte ≡ ShiftDisplay (bit 0x04 byte)
-  unfolding decoded
-  is-shift over under = rw (lt-leb 0x80 byte (omega arith), lt-leb 0x40 byte (omega arith), lt-leb 0x20 byte (omega arith), le-leb 0x10 byte (omega arith), high-on (omega arith) (omega arith))
-
-  is-function : 0x20 ≤ byte → byte ≤ 0x3F → decoded byte ≡ SetFunction (bit 0x10 byte) (record { n = bit 0x08 byte; f = bit 0x04 byte })
-  unfolding decoded
-  is-function over under = rw (lt-leb 0x80 byte (omega arith), lt-leb 0x40 byte (omega arith), le-leb 0x20 byte (omega arith))
-
-  is-pattern : 0x40 ≤ byte → byte ≤ 0x7F → decoded byte ≡ PatternAddress (record { 0 = byte - 0x40 })
-  unfolding decoded
-  is-pattern over under = rw (lt-leb 0x80 byte (omega arith), le-leb 0x40 byte (omega arith))
-
 -- at width 8, with busy over, an instruction is executed at once
 rule : (Does : Record → List ℕ → ℕ → Decision → Type 0) (i : Instruction) (rec : Record) (mem : List ℕ) (byte wait : ℕ)
     → Waits rec mem true Empty wait → decoded byte ≡ i → Does rec mem byte (executed mem i (busyOver rec)) → Does rec mem byte (decided rec mem 0 byte wait)
@@ -101,7 +53,7 @@ rule Does i rec mem byte wait w is done =
 does-nothing : Instructs 0x00 0x00 DoesNothing
 unfolding executed shortTime performed
 does-nothing rec mem byte wait w over under =
-    rule DoesNothing _ rec mem byte wait w (is-nothing byte under)
+    rule DoesNothing _ rec mem byte wait w (decoded-nothing byte under)
     (record {
       comes = record { answer = refl; byte = refl; busy = refl; frequency = refl; half = w .holds };
       function = record { wide = refl; n = refl; f = refl };
@@ -154,7 +106,7 @@ homes rec effect entry none =
 pub clears : Instructs 0x01 0x01 Clears
 unfolding executed longTime performed
 clears rec mem byte wait w over under =
-    rule Clears _ rec mem byte wait w (is-clear byte over under)
+    rule Clears _ rec mem byte wait w (decoded-clear byte over under)
     (record {
       homes = homes rec _ _ (w .holds);
       id = refl;
@@ -165,7 +117,7 @@ clears rec mem byte wait w over under =
 goes-home : Instructs 0x02 0x03 GoesHome
 unfolding executed longTime performed
 goes-home rec mem byte wait w over under =
-    rule GoesHome _ rec mem byte wait w (is-home byte over under)
+    rule GoesHome _ rec mem byte wait w (decoded-home byte over under)
     (record {
       homes = homes rec _ (rec .entry) (w .holds);
       entry = record { id = refl; s = refl };
@@ -175,7 +127,7 @@ goes-home rec mem byte wait w over under =
 sets-entry : Instructs 0x04 0x07 SetsEntry
 unfolding executed shortTime performed bit
 sets-entry rec mem byte wait w over under =
-    rule SetsEntry _ rec mem byte wait w (is-entry byte over under)
+    rule SetsEntry _ rec mem byte wait w (decoded-entry byte over under)
     (record {
       comes = record { answer = refl; byte = refl; busy = refl; frequency = refl; half = w .holds };
       function = record { wide = refl; n = refl; f = refl };
@@ -189,7 +141,7 @@ sets-entry rec mem byte wait w over under =
 sets-control : Instructs 0x08 0x0F SetsControl
 unfolding executed shortTime performed bit
 sets-control rec mem byte wait w over under =
-    rule SetsControl _ rec mem byte wait w (is-control byte over under)
+    rule SetsControl _ rec mem byte wait w (decoded-control byte over under)
     (record {
       comes = record { answer = refl; byte = refl; busy = refl; frequency = refl; half = w .holds };
       function = record { wide = refl; n = refl; f = refl };
@@ -204,7 +156,7 @@ sets-control rec mem byte wait w over under =
 sets-function : Instructs 0x20 0x3F SetsFunction
 unfolding executed shortTime performed bit
 sets-function rec mem byte wait w over under =
-    rule SetsFunction _ rec mem byte wait w (is-function byte over under)
+    rule SetsFunction _ rec mem byte wait w (decoded-function byte over under)
     (record {
       comes = record { answer = refl; byte = refl; busy = refl; frequency = refl; half = w .holds };
       wide = refl;
@@ -266,13 +218,13 @@ moved rec mem byte next (Pattern cell) none is goes =
 moves-counter : Instructs 0x10 0x17 MovesCounter
 unfolding executed bit
 moves-counter rec mem byte wait w over under =
-    rule MovesCounter _ rec mem byte wait w (is-cursor byte over under)
+    rule MovesCounter _ rec mem byte wait w (decoded-cursor byte over under)
     (moved rec mem byte _ (beside (isSet 0x04 byte) (rec .counter)) (w .holds) (beside-is _ (rec .counter) (sound-counter rec (w .sound))) refl)
 
 shifts-display : Instructs 0x18 0x1F ShiftsDisplay
 unfolding executed shortTime performed bit
 shifts-display rec mem byte wait w over under =
-    rule ShiftsDisplay _ rec mem byte wait w (is-shift byte over under)
+    rule ShiftsDisplay _ rec mem byte wait w (decoded-shift byte over under)
     (record {
       comes = record { answer = refl; byte = refl; busy = refl; frequency = refl; half = w .holds };
       function = record { wide = refl; n = refl; f = refl };
@@ -306,7 +258,7 @@ sets-pattern : Instructs 0x40 0x7F SetsPattern
 unfolding executed placeOf
 sets-pattern rec mem byte wait w over under =
     let same : (byte - 0x40) % 64 ≡ byte - 0x40 = mod-eq-of-lt (omega arith) in
-    rule SetsPattern _ rec mem byte wait w (is-pattern byte over under)
+    rule SetsPattern _ rec mem byte wait w (decoded-pattern byte over under)
     (subst (λ (c : ℕ). SetsPattern rec mem byte (changed (loaded mem (placed (Pattern c) (busyOver rec))))) (sym same)
     (goes (Pattern (byte - 0x40)) (80 + (byte - 0x40)) rec mem (w .holds) refl))
 
@@ -346,7 +298,7 @@ lacks rec mem none =
 sets-display : Instructs 0x80 0xFF SetsDisplay
 unfolding executed addressed placeOf
 sets-display rec mem byte wait w over under =
-    rule SetsDisplay _ rec mem byte wait w (decoded-address byte (le-leb 0x80 byte over))
+    rule SetsDisplay _ rec mem byte wait w (decoded-display byte over)
     (record { named = named; unnamed = unnamed (cellOfAdd n add) refl })
   where
     n : Bool

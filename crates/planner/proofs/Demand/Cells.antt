@@ -10,10 +10,10 @@ use native.Mathlib.Omega.{arith}
 use lib.Dec.{eqb, ltb}
 use lib.ListN.{length, getD, set}
 use lib.Seq.{getD-set-same, getD-set-other}
-use borrow.Author.Tests.{ltb-true, ltb-false, lt-ltb, le-ltb, le-leb, lt-leb, ne-eqb}
+use borrow.Author.Tests.{ltb-true, ltb-false, lt-ltb, le-ltb, ne-eqb}
 use Rattle.controller.proofs.Laws.Cells.{address-below, display-on}
 use Rattle.controller.proofs.Laws.Choice.{and-right}
-use Rattle.controller.proofs.Laws.Instruction.{decoded-address}
+use Rattle.controller.proofs.Laws.Instruction.{decoded-pattern, decoded-display}
 use Rattle.controller.proofs.Theorems.Cells.{addresses-match, wraps}
 use Rattle.controller.specs.Cells.{placeOf, stepped, cellOfAdd, addOfCell, addressSet, addressOf}
 use Rattle.controller.specs.Decision.{performed, done}
@@ -21,7 +21,6 @@ use Rattle.controller.specs.Execute.{shortTime, placed, movedOn, loaded, change
 use Rattle.controller.specs.Instruction.{decoded}
 use Rattle.controller.specs.Record.{busyOver, withCounter, withRegister}
 use Rattle.controller.specs.Runs.{State, after}
-use Rattle.controller.specs.declared.cells.Acg.{Acg}
 use Rattle.controller.specs.declared.cells.Add.{Add}
 use Rattle.controller.specs.declared.cells.Counter.{Counter}
 use Rattle.controller.specs.declared.cells.Counter.the-variants.{Display, Pattern}
@@ -29,7 +28,7 @@ use Rattle.controller.specs.declared.cells.Named.{Named}
 use Rattle.controller.specs.declared.decision.Decision.{Decision}
 use Rattle.controller.specs.declared.decision.Effect.the-variants.{Store}
 use Rattle.controller.specs.declared.instruction.Instruction.{Instruction}
-use Rattle.controller.specs.declared.instruction.Instruction.the-variants.{PatternAddress, DisplayAddress}
+use Rattle.controller.specs.declared.instruction.Instruction.the-variants.{DisplayAddress}
 use Rattle.controller.specs.declared.«record».Entry.{Entry}
 use Rattle.controller.specs.declared.«record».Function.{Function}
 use Rattle.controller.specs.declared.«record».Record.{Record}
@@ -114,9 +113,6 @@ address-small n place below =
 abbrev add : ℕ → Add
 add a = record { 0 = a }
 
-abbrev acg : ℕ → Acg
-acg a = record { 0 = a }
-
 display-does : (mem : List ℕ) (n : Bool) (place : ℕ) (rec : Record) → place < 80 → rec .function .n ≡ n
     → executed mem (decoded (addressByte n place)) rec ≡ changed (loaded mem (placed (Display place) rec))
 unfolding executed addressed
@@ -125,13 +121,9 @@ display-does mem n place rec low lines =
     let byte : addressByte n place ≡ 0x80 + a = low-byte n place low in
     let back : 0x80 + a - 0x80 ≡ a = omega arith in
     ap (λ (i : Instruction). executed mem i rec)
-    (ap decoded byte ∙ decoded-address (0x80 + a) (le-leb 0x80 (0x80 + a) (omega arith)) ∙ ap (λ (x : ℕ). DisplayAddress (add x)) back)
+    (ap decoded byte ∙ decoded-display (0x80 + a) (omega arith) ∙ ap (λ (x : ℕ). DisplayAddress (add x)) back)
     ∙ ap (λ (x : Bool). addressed mem (cellOfAdd x (addOfCell n place)) rec) lines
     ∙ ap (λ (x : Named). addressed mem x rec) (addresses-match n .0 place low)
-
-decoded-pattern : (byte : ℕ) → 0x40 ≤ byte → byte < 0x80 → decoded byte ≡ PatternAddress (acg (byte - 0x40))
-unfolding decoded
-decoded-pattern byte over below = rw (lt-leb 0x80 byte below, le-leb 0x40 byte over)
 
 pattern-does : (mem : List ℕ) (n : Bool) (place : ℕ) (rec : Record) → 80 ≤ place → place < 144
     → executed mem (decoded (addressByte n place)) rec ≡ changed (loaded mem (placed (Pattern (place - 80)) rec))
