@@ -1,8 +1,10 @@
--- The instruction table of document 002: an instruction by its highest set bit (document 01, "One transfer").
+-- The instruction table of document 002: an instruction by its leading zero bits (document 02, f), and so by its highest set bit
+-- (document 01, "One transfer").
 -- Assumes nothing.
 use mathlib.Core.Bool.{Bool, cond}
 use Prim.Native.Nat.{ℕ, _-_, _/_, _%_}
-use lib.Dec.{leb, eqb}
+use lib.Count.{leadingZeros}
+use lib.Dec.{eqb}
 use Rattle.controller.specs.declared.instruction.Instruction.{Instruction}
 use Rattle.controller.specs.declared.instruction.Instruction.the-variants.{Nothing, Clear, Home, SetEntry, SetControl}
 use Rattle.controller.specs.declared.instruction.Instruction.the-variants.{MoveCursor, ShiftDisplay, SetFunction}
@@ -12,15 +14,25 @@ use Rattle.controller.specs.declared.instruction.Instruction.the-variant
 unfoldable pub bit : ℕ → ℕ → Bool
 bit worth byte = eqb (byte / worth % 2) 1
 
--- The table, from its last row to its first; the bits below the highest are the row's own.
-unfoldable pub decoded : ℕ → Instruction
-decoded byte =
-    cond (leb 0x80 byte) (DisplayAddress (record { 0 = byte - 0x80 }))
-    (cond (leb 0x40 byte) (PatternAddress (record { 0 = byte - 0x40 }))
-    (cond (leb 0x20 byte) (SetFunction (bit 0x10 byte) (record { n = bit 0x08 byte; f = bit 0x04 byte }))
-    (cond (leb 0x10 byte) (cond (bit 0x08 byte) (ShiftDisplay (bit 0x04 byte)) (MoveCursor (bit 0x04 byte)))
-    (cond (leb 0x08 byte) (SetControl (record { d = bit 0x04 byte; c = bit 0x02 byte; b = bit 0x01 byte }))
-    (cond (leb 0x04 byte) (SetEntry (record { id = bit 0x02 byte; s = bit 0x01 byte }))
-    (cond (leb 0x02 byte) Home
-    (cond (leb 0x01 byte) Clear
+-- Cursor or display shift: S/C is bit 3, R/L bit 2.
+abbrev pub shiftOf : ℕ → Instruction
+shiftOf byte = cond (bit 0x08 byte) (ShiftDisplay (bit 0x04 byte)) (MoveCursor (bit 0x04 byte))
+
+-- The table, row by row and in its order: a row by the number of zeros that lead the byte, and the bits below the highest set one
+-- are the row's own. 00h, which has eight zeros, is not in the table.
+unfoldable pub row : ℕ → ℕ → Instruction
+row zeros byte =
+    cond (eqb zeros 7) Clear
+    (cond (eqb zeros 6) Home
+    (cond (eqb zeros 5) (SetEntry (record { id = bit 0x02 byte; s = bit 0x01 byte }))
+    (cond (eqb zeros 4) (SetControl (record { d = bit 0x04 byte; c = bit 0x02 byte; b = bit 0x01 byte }))
+    (cond (eqb zeros 3) (shiftOf byte)
+    (cond (eqb zeros 2) (SetFunction (bit 0x10 byte) (record { n = bit 0x08 byte; f = bit 0x04 byte }))
+    (cond (eqb zeros 1) (PatternAddress (record { 0 = byte - 0x40 }))
+    (cond (eqb zeros 0) (DisplayAddress (record { 0 = byte - 0x80 }))
     Nothing)))))))
+
+-- A byte's instruction. `leadingZeros 8` counts the zeros above the highest set one of eight bits.
+unfoldable pub decoded : ℕ → Instruction
+unfolding row leadingZeros
+decoded byte = row (leadingZeros 8 byte) byte

@@ -1,7 +1,7 @@
-// The instruction table of document 002.
+// The instruction table of document 002. docs/DECODER.md has its rows and the cases of `decode` side by side.
 ghost use mathlib.Core.Path.{_≡_};
 ghost use Prim.Native.Nat.{_<_};
-ghost use Rattle.controller.specs.Instruction.{bit, decoded};
+ghost use Rattle.controller.specs.Instruction.{bit, shiftOf, decoded};
 use crate::cells::Acg;
 use crate::cells::Add;
 use crate::record::Control;
@@ -61,36 +61,38 @@ fn entry_of(byte: u8) -> Entry
     }
 }
 
-// The instruction by its highest set bit, from the table's last row to its first.
+// Cursor or display shift: S/C says which of the two, R/L where to.
+fn shift_of(byte: u8) -> Instruction
+    ensures { λ r. ⌜ r ≡ shiftOf byte ⌝ }
+{
+    if has(0x08, byte) {
+        return Instruction::ShiftDisplay(has(0x04, byte));
+    }
+    Instruction::MoveCursor(has(0x04, byte))
+}
+
+// The instruction by its leading zero bits: a case a row, in the table's order, each under its bits as the table has them.
 pub fn decode(byte: u8) -> Instruction
     ensures { λ r. ⌜ r ≡ decoded byte ⌝ }
 {
-    if 0x80 <= byte {
-        return Instruction::DisplayAddress(Add(byte - 0x80));
+    match u8::leading_zeros(byte) {
+        // Clear:                    0 0 0 0 0 0 0 1
+        7 => Instruction::Clear,
+        // Home:                     0 0 0 0 0 0 1 *
+        6 => Instruction::Home,
+        // Entry mode:               0 0 0 0 0 1 I/D S
+        5 => Instruction::SetEntry(entry_of(byte)),
+        // Display control:          0 0 0 0 1 D C B
+        4 => Instruction::SetControl(control_of(byte)),
+        // Cursor or display shift:  0 0 0 1 S/C R/L * *
+        3 => shift_of(byte),
+        // Function set:             0 0 1 DL N F * *
+        2 => Instruction::SetFunction(has(0x10, byte), function_of(byte)),
+        // Pattern address:          0 1 ACG
+        1 => Instruction::PatternAddress(Acg(byte - 0x40)),
+        // Display address:          1 ADD
+        0 => Instruction::DisplayAddress(Add(byte - 0x80)),
+        // 00h has eight, and no row.
+        _ => Instruction::Nothing,
     }
-    if 0x40 <= byte {
-        return Instruction::PatternAddress(Acg(byte - 0x40));
-    }
-    if 0x20 <= byte {
-        return Instruction::SetFunction(has(0x10, byte), function_of(byte));
-    }
-    if 0x10 <= byte {
-        if has(0x08, byte) {
-            return Instruction::ShiftDisplay(has(0x04, byte));
-        }
-        return Instruction::MoveCursor(has(0x04, byte));
-    }
-    if 0x08 <= byte {
-        return Instruction::SetControl(control_of(byte));
-    }
-    if 0x04 <= byte {
-        return Instruction::SetEntry(entry_of(byte));
-    }
-    if 0x02 <= byte {
-        return Instruction::Home;
-    }
-    if 0x01 <= byte {
-        return Instruction::Clear;
-    }
-    Instruction::Nothing
 }
