@@ -48,7 +48,7 @@ reset-state rec mem long = rw (eq-eqb (length mem) 144 long)
 -- where 250 kHz is fitted, reset is as from 250 kHz
 reset-at : (frequency : Frequency) → fitted frequency ≡ older → resetRecord frequency ≡ resetRecord older
 unfolding resetRecord
-reset-at frequency is = rw (is, fitted-in older older-within)
+reset-at frequency is = simp (is, fitted-in older older-within)
 
 pub p1 : P1
 unfolding resetRecord resetTime

@@ -9,7 +9,6 @@ use Rattle.controller.proofs.Laws.Kept.{decided-kept, decided-fits, res
 use Rattle.controller.proofs.Laws.Oscillator.{fitted-within, within-range}
 use Rattle.controller.specs.declared.oscillator.Frequency.{Frequency}
 use Rattle.controller.specs.Bus.{resetDecided}
-use Rattle.controller.specs.Oscillator.{fitted}
 use Rattle.controller.specs.Record.{resetRecord, sound}
 use Rattle.controller.specs.Theorems.{TransferKeepsSound, ResetMakesSound, EffectsFit}
 
@@ -20,7 +19,7 @@ pub reset-sound : (frequency : Frequency) → sound (resetRecord frequency) ≡ 
 unfolding resetRecord
 reset-sound frequency =
     idle-sound (resetRecord frequency)
-    (record { shift = omega arith; counter = display-on 0 (omega arith); frequency = within-range (fitted frequency) (fitted-within frequency); half = refl }) (omega arith)
+    (record { shift = omega arith; counter = display-on 0 (omega arith); frequency = within-range _ (fitted-within _); half = refl }) (omega arith)
 
 pub reset-makes-sound : ResetMakesSound
 unfolding resetDecided
