@@ -184,7 +184,7 @@ cursor-shows shapes rec mem cell =
       blinking = λ on b row. simp (on, same, b, or-true);
       higher = λ lit b row h. simp (b, ne-eqb (row + 1) (height (rec .function)) (λ e. omega arith), and-false);
       without = λ lit b c row. simp (b, c, and-false);
-      elsewhere = λ lit off row. simp (is-off (rec .counter) cell off);
+      elsewhere = λ lit off row. simp (is-off (rec .counter) cell off, and-false);
     }
 
 -- F is read nowhere.

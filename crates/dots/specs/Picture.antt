@@ -42,7 +42,7 @@ cursorSets control lit rows row = (control .c && eqb (row + 1) rows) || (control
 
 -- The cursor or the blinking covers this row of this cell.
 unfoldable pub covered : Record → Bool → ℕ → ℕ → Bool
-covered rec lit row cell = isOn (rec .counter) cell && cursorSets (rec .control) lit (height (rec .function)) row
+covered rec lit row cell = cursorSets (rec .control) lit (height (rec .function)) row && isOn (rec .counter) cell
 
 -- One row of a display cell: all five dots where it is covered, else the row of the cell's code.
 unfoldable pub cellRow : List ℕ → Record → List ℕ → Bool → ℕ → ℕ → ℕ

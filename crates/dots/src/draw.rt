@@ -78,7 +78,7 @@ fn is_covered(rec: Record, lit: bool, row: usize, cell: usize) -> bool
     let counter = rec.counter;
     let control = rec.control;
     let function = rec.function;
-    is_on(counter, cell) && cursor_sets(control, lit, rows_of(function), row)
+    cursor_sets(control, lit, rows_of(function), row) && is_on(counter, cell)
 }
 
 // One row of a display cell.
