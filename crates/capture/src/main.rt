@@ -1,5 +1,7 @@
 // The capture program: reads a session from standard input and writes it as a capture to standard output, to be looked at in a
 // wave viewer. What ended or spoilt the run, and pulses that run into each other, are told on standard error. Request b).
+#![tactic(auto)]
+
 ghost use Rattle.std.specs.Prelude.{◌≡◌, ◌+◌, ◌*◌, ◌<◌, ◌≤◌, length};
 ghost use Rattle.lines.specs.Session.{session_of};
 
@@ -16,7 +18,7 @@ const OUTPUT: usize = 9 * LIMIT + 291;
 
 // What is seen of a session's lines: the number of the next one, at the end that of a bad line, and where that begins; how many
 // but the first have a wait below 2, and the number and the wait of the first of those.
-#[derive(Drop)]
+#[derive(Clone, Copy)]
 pub struct Seen {
     pub number: u64,
     pub from: usize,

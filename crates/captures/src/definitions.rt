@@ -11,7 +11,7 @@ use crate::form::{Phase, asks, pass};
 use crate::words::{part, place_in, same, word_end};
 
 // Where the code of each needed signal stands in the text; from 0 to 0 where it is not declared yet.
-#[derive(Drop)]
+#[derive(Clone, Copy)]
 pub struct Codes {
     pub starts: [usize; 11],
     pub ends: [usize; 11],
@@ -19,7 +19,7 @@ pub struct Codes {
 
 // What has been read of the definitions: the phase, where the code of the section at hand stands, the codes of the needed
 // signals, and whether one of them was declared twice.
-#[derive(Drop)]
+#[derive(Clone, Copy)]
 pub struct Head {
     pub phase: Phase,
     pub from: usize,

@@ -16,7 +16,7 @@ use lines::{first, put_text, write_line};
 
 // What is counted of the falls: whether there was one, the last one's stamp, whether a needed line was at x or z, and the length
 // of their lines.
-#[derive(Drop)]
+#[derive(Clone, Copy)]
 pub struct Tally {
     pub fell: bool,
     pub last: u32,

@@ -19,7 +19,7 @@ use crate::table::SHORT_CODES;
 use crate::words::{part, word_end};
 
 // What is wrong with a word; where nothing is, the text is only unfinished.
-#[derive(Drop)]
+#[derive(Clone, Copy)]
 pub enum Fault {
     Unfinished,
     Misplaced,
@@ -28,7 +28,7 @@ pub enum Fault {
 }
 
 // The first word at fault, and where it begins; where there is none, the place is behind the text.
-#[derive(Drop)]
+#[derive(Clone, Copy)]
 pub struct Wrong {
     pub fault: Fault,
     pub place: usize,
@@ -153,7 +153,7 @@ fn both(one: bool, other: bool) -> bool
 }
 
 // The first fall with x or z on a needed line: its stamp, where that stands in the text, and the levels of the eleven lines.
-#[derive(Drop)]
+#[derive(Clone, Copy)]
 pub struct Unknown {
     pub found: bool,
     pub place: usize,

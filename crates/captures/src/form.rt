@@ -8,7 +8,7 @@ use crate::words::{is_plain, place_in, same};
 
 // What comes next: a section of the definitions, a part of one, stamps and changes, or changes and an end. The bool says whether
 // the timescale has been.
-#[derive(Drop)]
+#[derive(Clone, Copy)]
 pub enum Phase {
     Section(bool),
     Scale,

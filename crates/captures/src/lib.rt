@@ -1,4 +1,6 @@
 // A capture from the logic pod, Value Change Dump text, as a session's text, and a session's text as a capture. Request b).
+#![tactic(auto)]
+
 mod definitions;
 mod falls;
 mod faults;

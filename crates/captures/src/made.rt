@@ -12,7 +12,7 @@ use controller::{Answer, Sent, is_done};
 use lines::{Line, Written, first, hex_digit, put_byte, put_number, put_text, read_line};
 
 // How a session ends, done or its bad line's answer, and the length of the capture up to there.
-#[derive(Drop)]
+#[derive(Clone, Copy)]
 pub struct Reached {
     pub answer: Answer,
     pub length: usize,

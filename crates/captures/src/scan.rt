@@ -16,7 +16,7 @@ use crate::words::{part, same, word_end};
 
 // What has been read of a capture: the phase, the levels of the eleven lines (0, 1, or 2 for x and z), whether a stamp has come,
 // the stamp, E as it stood at the stamp before (2 where there was none), and whether a code was changed that is not declared.
-#[derive(Drop)]
+#[derive(Clone, Copy)]
 pub struct Scan {
     pub phase: Phase,
     pub levels: [u8; 11],

@@ -20,7 +20,7 @@ use controller::{Answer, is_done};
 use lines::Written;
 
 // A capture, all of it read: what was seen last, and what was counted.
-#[derive(Drop)]
+#[derive(Clone, Copy)]
 pub struct Ended {
     pub scan: Scan,
     pub tally: Tally,

@@ -2,7 +2,7 @@
 ghost use Rattle.controller.specs.Promises.{IsDonePromise, IsRefusalPromise, NumberPromise};
 
 // A name for each row of the table "What each number says".
-#[derive(Drop)]
+#[derive(Clone, Copy)]
 pub enum Answer {
     Done,
     Unsound,

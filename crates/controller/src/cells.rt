@@ -6,15 +6,15 @@ ghost use Rattle.controller.specs.Cells.{place_of, stepped, wrapped};
 ghost use Rattle.controller.specs.Promises.{AddressSetPromise, CellOfPromise, LineLengthPromise};
 
 // A display address, as the bus carries it. It is never read as a pattern address.
-#[derive(Drop)]
+#[derive(Clone, Copy)]
 pub struct Add(pub u8);
 
 // A pattern address, as the bus carries it. It is never read as a display address.
-#[derive(Drop)]
+#[derive(Clone, Copy)]
 pub struct Acg(pub u8);
 
 // Where the next byte goes: a display cell 0 to 79 or a pattern cell 0 to 63.
-#[derive(Drop)]
+#[derive(Clone, Copy)]
 pub enum Counter {
     Display(u8),
     Pattern(u8),
@@ -31,7 +31,7 @@ pub fn cell_of(counter: Counter) -> u8
 }
 
 // What a display address names: a display cell, or nothing.
-#[derive(Drop)]
+#[derive(Clone, Copy)]
 pub enum Named {
     Cell(u8),
     Outside,

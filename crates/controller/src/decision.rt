@@ -6,7 +6,7 @@ use crate::answers::Answer;
 use crate::record::Record;
 
 // All that can happen to the memory: nothing, one byte stored at a place, or the display cells blanked to 20h.
-#[derive(Drop)]
+#[derive(Clone, Copy)]
 pub enum Effect {
     Keep,
     Store(usize, u8),
@@ -14,7 +14,7 @@ pub enum Effect {
 }
 
 // What is to be told, the record to be left, and the effect to be performed.
-#[derive(Drop)]
+#[derive(Clone, Copy)]
 pub struct Decision {
     pub answer: Answer,
     pub byte: u8,
@@ -23,7 +23,7 @@ pub struct Decision {
 }
 
 // What the caller is told and given back.
-#[derive(Drop)]
+#[derive(Clone, Copy)]
 pub struct Outcome {
     pub answer: Answer,
     pub byte: u8,

@@ -15,7 +15,7 @@ use crate::oscillator::{Frequency, time_at};
 use crate::record::{Control, Entry, Function, Record};
 
 // A complete transfer, with the byte that it writes or returns.
-#[derive(Drop)]
+#[derive(Clone, Copy)]
 pub enum Transfer {
     Instruct(u8),
     Write(u8),

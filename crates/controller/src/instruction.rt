@@ -6,7 +6,7 @@ use crate::cells::{Acg, Add};
 use crate::record::{Control, Entry, Function};
 
 // A row of the table, with what its lower bits say. `MoveCursor` and `ShiftDisplay` hold R/L: true is right.
-#[derive(Drop)]
+#[derive(Clone, Copy)]
 pub enum Instruction {
     Nothing,
     Clear,

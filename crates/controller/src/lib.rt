@@ -2,6 +2,8 @@
 // the controller's record and its memory come out. Document 01, "The controller's record and memory" and "One transfer".
 //
 // Every transfer is decided first, by functions that change nothing, and then performed: `decision` has the parts.
+#![tactic(auto)]
+
 mod answers;
 mod bus;
 mod cells;

@@ -6,7 +6,7 @@ use crate::bus::transfer;
 use crate::record::Record;
 
 // What the caller of the loan is told.
-#[derive(Drop)]
+#[derive(Clone, Copy)]
 pub struct Told {
     pub answer: Answer,
     pub byte: u8,

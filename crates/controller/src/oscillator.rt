@@ -4,7 +4,7 @@ ghost use Rattle.controller.specs.Oscillator.{fitted, time_at};
 ghost use Rattle.controller.specs.Promises.{IsInRangePromise};
 
 // An oscillator's frequency.
-#[derive(Drop)]
+#[derive(Clone, Copy)]
 pub struct Frequency {
     pub khz: u16,
 }

@@ -7,14 +7,14 @@ use crate::cells::Counter;
 use crate::oscillator::{Frequency, fit, is_in_range};
 
 // What Function Set sets, beside the width: N, two lines, and F, tall letters.
-#[derive(Drop)]
+#[derive(Clone, Copy)]
 pub struct Function {
     pub n: bool,
     pub f: bool,
 }
 
 // What Display Control sets: D, the display is on, C, the cursor shows, and B, its cell blinks.
-#[derive(Drop)]
+#[derive(Clone, Copy)]
 pub struct Control {
     pub d: bool,
     pub c: bool,
@@ -22,14 +22,14 @@ pub struct Control {
 }
 
 // What Entry Mode sets: I/D, the counter goes up, and S, a data write shifts the display.
-#[derive(Drop)]
+#[derive(Clone, Copy)]
 pub struct Entry {
     pub id: bool,
     pub s: bool,
 }
 
 // The half transfer that waits at width 4: none, a write with its high four bits, or a read with its whole byte.
-#[derive(Drop)]
+#[derive(Clone, Copy)]
 pub enum Half {
     Empty,
     InstructionWrite(u8),
@@ -40,7 +40,7 @@ pub enum Half {
 
 // `wide`: width 8, and 4 where false. `reg`: the data register, which is `fresh` or stale. `busy`: microseconds left.
 // `frequency`: that of the oscillator which is fitted.
-#[derive(Drop)]
+#[derive(Clone, Copy)]
 pub struct Record {
     pub wide: bool,
     pub function: Function,

@@ -2,7 +2,7 @@
 ghost use Rattle.controller.specs.Promises.{LittleEndianPromise, NumberFromPromise, SixBytesPromise};
 
 // Kind (0 instruction write, 1 data write, 2 status read, 3 data read), byte, and the wait since the transfer before it.
-#[derive(Drop)]
+#[derive(Clone, Copy)]
 pub struct Sent {
     pub kind: u8,
     pub byte: u8,

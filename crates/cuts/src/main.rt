@@ -1,6 +1,8 @@
 // Plays plans with cuts on the controller itself. For each wish of a fixed set, each starting record of another and each of four
 // frequencies, the plan is stopped after any number of its transfers and then sent whole; what the controller then holds is
 // compared with what demand 3 says of it. Document 01, "The plan".
+#![tactic(auto)]
+
 ghost use Rattle.std.specs.Prelude.{◌≤◌};
 
 mod cells;

@@ -9,7 +9,7 @@ use controller::{Answer, Frequency, number_from, transfer};
 
 // One run: the wish and the start by their numbers, the frequency of both, how many transfers are sent before the first cut,
 // and how many of the plan begun anew before the second.
-#[derive(Drop)]
+#[derive(Clone, Copy)]
 pub struct Run {
     pub wish: u8,
     pub frequency: Frequency,

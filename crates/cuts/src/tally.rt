@@ -2,7 +2,7 @@
 use std::num::wrapping_add_u64;
 
 // The length of the report so far, the runs played, the transfers sent in them, and the runs that ended wrong.
-#[derive(Drop)]
+#[derive(Clone, Copy)]
 pub struct Tally {
     pub at: usize,
     pub runs: u64,

@@ -8,7 +8,7 @@ use controller::{Control, Counter, Entry, Function, Half, Record, short_time};
 use planner::Wish;
 
 // The controller on the way: its record, the transfers sent so far, and whether one of them was refused as busy.
-#[derive(Drop)]
+#[derive(Clone, Copy)]
 pub struct Played {
     pub rec: Record,
     pub sent: u64,
@@ -16,7 +16,7 @@ pub struct Played {
 }
 
 // The first thing that is not as demand 3 says, if there is one.
-#[derive(Drop)]
+#[derive(Clone, Copy)]
 pub enum Fault {
     Nothing,
     Refused,
@@ -35,7 +35,7 @@ pub enum Fault {
 }
 
 // What is to be said of a run, and how many transfers were sent in it.
-#[derive(Drop)]
+#[derive(Clone, Copy)]
 pub struct Verdict {
     pub fault: Fault,
     pub sent: u64,

@@ -7,7 +7,7 @@ use crate::panel::{Profile, on_glass, place_at, size_of};
 use controller::Function;
 
 // What a position shows: a display cell, or nothing where its line is not driven.
-#[derive(Drop)]
+#[derive(Clone, Copy)]
 pub enum Shown {
     Cell(usize),
     Undriven,

@@ -1,4 +1,6 @@
 // What a panel shows of a controller's record and memory, five dots a byte. Document 01, "The dots", and document 02, request e).
+#![tactic(auto)]
+
 mod draw;
 mod font;
 mod geometry;

@@ -5,14 +5,14 @@ ghost use Rattle.dots.specs.Panel.{fits_glass, fits_plain, on_glass, place_at};
 ghost use Rattle.dots.specs.Promises.{SizeOfPromise};
 
 // A panel's size: characters to a line, and lines.
-#[derive(Drop)]
+#[derive(Clone, Copy)]
 pub struct Size {
     pub columns: u8,
     pub lines: u8,
 }
 
 // A panel: the plain geometry of some size, the panel of 20 x 4, the divided row of 16 x 1, or one that is not known.
-#[derive(Drop)]
+#[derive(Clone, Copy)]
 pub enum Profile {
     Plain(Size),
     FourRows,
@@ -21,7 +21,7 @@ pub enum Profile {
 }
 
 // Where a position of the glass stands: the line of the controller that it belongs to, and how far in.
-#[derive(Drop)]
+#[derive(Clone, Copy)]
 pub struct Place {
     pub line: usize,
     pub position: usize,

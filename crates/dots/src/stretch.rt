@@ -6,7 +6,7 @@ ghost use Rattle.dots.specs.Stretch.{part_at, stretch, stretches};
 use crate::panel::Profile;
 
 // Where one row of dots of a stretch begins on the glass.
-#[derive(Drop)]
+#[derive(Clone, Copy)]
 pub struct Part {
     pub line: usize,
     pub row: usize,

@@ -33,7 +33,7 @@ const LEGEND: usize = 45;
 
 // How a panel is drawn: its dots in a frame or as block characters, what it reads as letters, its dots as a bitmap, or its cells
 // listed.
-#[derive(Drop)]
+#[derive(Clone, Copy)]
 pub enum Form {
     Dots,
     Blocks,

@@ -6,7 +6,7 @@ ghost use Rattle.drawing.specs.Grid.{Small, byte_of, dot_of, is_between, is_lit,
 use dots::{Profile, Size};
 
 // What is drawn: the panel, its size, and rows of dots to a character.
-#[derive(Drop)]
+#[derive(Clone, Copy)]
 pub struct Grid {
     pub profile: Profile,
     pub size: Size,

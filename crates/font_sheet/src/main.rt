@@ -1,5 +1,7 @@
 // Writes the shapes of the fixed table, sixteen beside each other under their letters and codes, for a person to look at. Each
 // block is a picture: a line of sixteen characters, with the display on and no cursor.
+#![tactic(auto)]
+
 ghost use Rattle.std.specs.Prelude.{◌<◌};
 
 use controller::{Frequency, Record, after_reset};

@@ -1,5 +1,7 @@
 // The program `glass`: reads a session from standard input, plays it, and draws the panel as it then stands on standard output.
 // What ended or spoilt the run is told on standard error.
+#![tactic(auto)]
+
 mod options;
 mod refusals;
 

@@ -6,7 +6,7 @@ use dots::{Profile, Size};
 use drawing::Form;
 use lines::three_digits;
 
-#[derive(Drop)]
+#[derive(Clone, Copy)]
 pub struct Options {
     pub form: Form,
     // Whether a form was asked for.
@@ -31,7 +31,7 @@ pub struct Options {
 }
 
 // The number that the word before asks for: none, that of `--until` or that of `--khz`.
-#[derive(Drop)]
+#[derive(Clone, Copy)]
 pub enum Awaited {
     Nothing,
     Transfers,
@@ -39,7 +39,7 @@ pub enum Awaited {
 }
 
 // A word of the command line.
-#[derive(Drop)]
+#[derive(Clone, Copy)]
 enum Word {
     Form(Form),
     Number(u8),
@@ -50,7 +50,7 @@ enum Word {
 }
 
 // A number of transfers, or none.
-#[derive(Drop)]
+#[derive(Clone, Copy)]
 enum Count {
     Of(u64),
     Missing,

@@ -1,5 +1,7 @@
 // The program `import`: reads a capture of the logic pod from standard input and writes its session to standard output. A capture
 // that is refused is told on standard error, with its number and what is at fault, and nothing is written. Request b).
+#![tactic(auto)]
+
 mod explain;
 
 use captures::import;

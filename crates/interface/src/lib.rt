@@ -1,5 +1,7 @@
 // The calls of the crates beneath for programs in C: numbers and byte slices only, a record as 24 bytes, a wish as 16. Each
 // answers every input, and returns the answer's number and 256 times the byte, count or length.
+#![tactic(auto)]
+
 mod capture_calls;
 mod controller_calls;
 mod line_calls;

@@ -9,7 +9,7 @@ use controller::{
 };
 
 // What bytes say: a record, or none.
-#[derive(Drop)]
+#[derive(Clone, Copy)]
 pub enum ReadRecord {
     Is(Record),
     Broken,

@@ -7,7 +7,7 @@ use controller::{Control, Entry, Function};
 use planner::Wish;
 
 // What bytes say: a wish, or none.
-#[derive(Drop)]
+#[derive(Clone, Copy)]
 pub enum ReadWish {
     Is(Wish),
     Broken,

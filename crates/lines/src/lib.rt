@@ -1,5 +1,7 @@
 // Session lines and the rows of a report, read and written as text; digits, text and answers in words put into a lent buffer.
 // Document 01, "Session lines", "What each number says".
+#![tactic(auto)]
+
 mod digits;
 mod fields;
 mod reader;

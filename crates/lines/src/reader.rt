@@ -11,7 +11,7 @@ use controller::Answer;
 
 // A line as it was read: the transfer and the line's length. A refusal has zeros for all of that, and the offset of the first
 // byte that cannot stand, or the text's length where it ends early.
-#[derive(Drop)]
+#[derive(Clone, Copy)]
 pub struct Line {
     pub answer: Answer,
     pub kind: u8,
@@ -22,14 +22,14 @@ pub struct Line {
 }
 
 // What a field says, or its fault: the answer, and the place of the first byte that cannot stand.
-#[derive(Drop)]
+#[derive(Clone, Copy)]
 pub enum Field {
     Stands(u8),
     Fault(Answer, usize),
 }
 
 // A wait as it was read, with the length of the line that it ends, or its fault.
-#[derive(Drop)]
+#[derive(Clone, Copy)]
 pub enum Wait {
     Good(u32, usize),
     Bad(Answer, usize),

@@ -10,7 +10,7 @@ use crate::text::put_text;
 use controller::{Answer, is_bad};
 
 // What a call that writes text is told: the length of what was written, 0 where it was refused.
-#[derive(Drop)]
+#[derive(Clone, Copy)]
 pub struct Written {
     pub answer: Answer,
     pub length: usize,

@@ -10,7 +10,7 @@ use crate::wish::{Wish, is_wish};
 use controller::{Answer, is_whole};
 
 // What the caller is told: the answer, and how many records were written.
-#[derive(Drop)]
+#[derive(Clone, Copy)]
 pub struct Planned {
     pub answer: Answer,
     pub count: usize,

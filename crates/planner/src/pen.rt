@@ -8,14 +8,14 @@ ghost use Rattle.planner.specs.Plan.{time_of, times_at};
 use controller::{Frequency, Sent, long_time, short_time, six_bytes};
 
 // The two times that a command can take, worked out once for a plan.
-#[derive(Drop)]
+#[derive(Clone, Copy)]
 pub struct Times {
     pub short: u32,
     pub long: u32,
 }
 
 // Where the next record goes, counted in records, the time that the last instruction takes, and the times of those to come.
-#[derive(Drop)]
+#[derive(Clone, Copy)]
 pub struct Pen {
     pub at: usize,
     pub wait: u32,

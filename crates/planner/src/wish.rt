@@ -6,7 +6,7 @@ use controller::{Control, Entry, Frequency, Function, is_in_range, line_length};
 
 // How the panel is to stand: the seven bits, the shift, and the display cell of the cursor; and the frequency of the module that
 // the plan is for. The cells to be written are given beside it, as 144 marks and 144 values.
-#[derive(Drop)]
+#[derive(Clone, Copy)]
 pub struct Wish {
     pub function: Function,
     pub control: Control,

@@ -1,4 +1,6 @@
 // A session's text, played from reset: into a report, or to see how it leaves the bench. Document 01, "Session lines".
+#![tactic(auto)]
+
 mod session;
 mod tally;
 mod through;

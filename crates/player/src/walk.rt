@@ -10,7 +10,7 @@ use lines::{Line, read_line, write_row};
 
 // A place between two lines: the bytes of the text that are read, the bytes of the report that are written, the number of
 // the next line, the record, and the refusals so far.
-#[derive(Drop)]
+#[derive(Clone, Copy)]
 pub struct Place {
     pub from: usize,
     pub at: usize,
@@ -20,7 +20,7 @@ pub struct Place {
 }
 
 // Where a line or a whole walk ended: done, or a bad line's answer, and the place.
-#[derive(Drop)]
+#[derive(Clone, Copy)]
 pub struct Ended {
     pub answer: Answer,
     pub place: Place,

@@ -1,5 +1,7 @@
 // The session program: reads a session from standard input, plays it at the frequency that is asked for, and writes its report to
 // standard output. What ended or spoilt the run is told on standard error. Document 01, "Session lines".
+#![tactic(auto)]
+
 mod options;
 
 ghost use Rattle.std.specs.Prelude.{◌≡◌, ◌+◌, ◌*◌, ◌≤◌, length};

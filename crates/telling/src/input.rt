@@ -2,7 +2,7 @@
 use libc::STDIN_FILENO;
 
 // What was read: whether a read failed, and how many bytes stand at the start of the buffer.
-#[derive(Drop)]
+#[derive(Clone, Copy)]
 pub struct Input {
     pub failed: bool,
     pub length: usize,

@@ -1,4 +1,6 @@
 // What the programs share: standard input read to its end, and what ended or spoilt a run told on standard error in words.
+#![tactic(auto)]
+
 mod bad_line;
 mod input;
 mod words;

@@ -8,7 +8,7 @@ use crate::row::{VIEW, byte_at, row_after, row_end};
 use controller::Record;
 
 // The controller on the way, and the report.
-#[derive(Drop)]
+#[derive(Clone, Copy)]
 struct Bench {
     rec: Record,
     tally: Tally,

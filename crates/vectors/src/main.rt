@@ -1,6 +1,8 @@
 // Plays the manuals' own examples on the controller itself, and compares what the glass then shows with what the manual
 // prints. Each example is a text of rows (module `row`), typed in from its document; docs/VECTORS.md names the places where
 // the print itself is wrong, and what decides there.
+#![tactic(auto)]
+
 mod display;
 mod document_001;
 mod document_003;

@@ -5,7 +5,7 @@ use controller::{
 };
 
 // The controller after a step, and whether a transfer of the step was refused.
-#[derive(Drop)]
+#[derive(Clone, Copy)]
 pub struct Played {
     pub rec: Record,
     pub refused: bool,

@@ -6,7 +6,7 @@ use lines::{put_byte, put_number, put_text};
 
 // The length of the report so far, the steps played, and those that differ from the manual. The sums wrap rather than ask
 // that they fit.
-#[derive(Drop)]
+#[derive(Clone, Copy)]
 pub struct Tally {
     pub at: usize,
     pub steps: u64,
