@@ -130,5 +130,5 @@ close_session = record { kind = 0; byte = 0x38; wait = 0 } ∷ record { kind = 1
 -- There E is up again at the stamp at which it fell, so at that stamp's end it has not fallen: the first transfer is lost, and
 -- what is imported is not the session. So later waits must be 2 or more.
 pub record CloseIsLost : Type 0 where
-  pub comes_to_lem : importing (capture_of 7 close_session) (replicate 60 0) ≡ writing (bytes_of "D\tA5\t0\n")
+  pub comes_to : importing (capture_of 7 close_session) (replicate 60 0) ≡ writing (bytes_of "D\tA5\t0\n")
   pub is_other : importing (capture_of 7 close_session) (replicate 60 0) ≡ writing (lines_of close_session) → ⊥

@@ -1,7 +1,7 @@
 -- The rules of width 4 said a second time: what a first half leaves, what a second returns, and who decides where the two differ
 -- in kind (document 01, "One transfer"). What two halves of one kind do together is `HalvesMakeWhole`.
 -- Assumes nothing.
-use Rattle.std.specs.Prelude.{Bool, true, false, cond, List, ◌≡◌, ℕ, ◌+◌, ◌-◌, ◌/◌, ltb, length}
+use Rattle.std.specs.Prelude.{true, false, cond, List, ◌≡◌, ℕ, ◌+◌, ◌-◌, ◌/◌, ltb, length}
 use Rattle.controller.specs.declared.decision.Decision.{Decision}
 use Rattle.controller.specs.declared.«record».Half.{Half}
 use Rattle.controller.specs.declared.«record».Half.TheVariants.{Empty, InstructionWrite, DataWrite, StatusRead, DataRead}

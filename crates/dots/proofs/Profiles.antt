@@ -45,7 +45,7 @@ rows_start =
 -- One position on in a line, where that is known by equations.
 step_on : (n : Bool) (shift line position line' position' cell : ℕ) → line ≡ line' → position + 1 ≡ position'
     → cell_at n shift line position ≡ Cell cell → cell_at n shift line' position' ≡ Cell (next_cell n cell)
-step_on n shift line position line' position' cell same on is = rw (sym same, sym on) (line-shows.next n shift line position cell is)
+step_on n shift line position line' position' cell same on is = rw (sym same, sym on) (line_shows.next n shift line position cell is)
 
 next_column : (n : Bool) (shift : ℕ) (profile : Profile) (line column cell : ℕ)
     → column + 1 < (size_of profile).columns → (profile ≡ Divided → column + 1 ≡ 8 → ⊥)
@@ -69,8 +69,8 @@ rows_run =
       next = next_column;
       below = next_row;
       shifted = λ n shift profile line column cell is.
-          line-shows.shifted n shift (place_at profile line column).line (place_at profile line column).position
-          ∙ line-shows.next n shift (place_at profile line column).line (place_at profile line column).position cell is;
+          line_shows.shifted n shift (place_at profile line column).line (place_at profile line column).position
+          ∙ line_shows.next n shift (place_at profile line column).line (place_at profile line column).position cell is;
     }
 
 -- With N=0 a place behind line 1 is zero.

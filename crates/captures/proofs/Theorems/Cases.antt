@@ -32,7 +32,7 @@ pub close_is_lost : CloseIsLost
 unfolding decimal spelled digit number_field byte_field letter_of kind_field line lines_of wanting is_blank joined words is_plain same place_in is_scope_kind is_var_type with_digit number_of stamp_of level_of level_set opened changing after past names placed named defined defined_by declares lacks_code changed stamped moved scanned scanned_by fall_at falls_from bit kind_of four bus_byte byte_of wait_from sent_from sent_by one_open bus_open unknown_at unknown_in in_subset is_missing session_text judged importing made_header made_stamp made_change made_lines made_pulse made_pulses capture_of
 close_is_lost =
     record {
-      comes_to_lem = refl;
+      comes_to = refl;
       is_other = λ same. let short : ◌≡◌ {A = ℕ} 7 14 = ap (λ (w : Writing). length w.text) same in omega arith;
     }
 

@@ -32,7 +32,7 @@ use Rattle.controller.specs.declared.«record».Record.{Record}
 use Rattle.controller.specs.Answers.{is_refusal}
 use Rattle.controller.specs.Cells.{on_cell, stepped, cell_of_add, cell_of_acg, Within}
 use Rattle.controller.specs.Decision.{done, refused, Fits}
-use Rattle.controller.specs.Execute.{short_time, long_time, changed, placed, moved_on, loaded, homed, cleared, cursor_at, shifted, addressed, executed, carried, written, read_out, completed}
+use Rattle.controller.specs.Execute.{short_time, long_time, changed, placed, moved_on, homed, cleared, cursor_at, shifted, addressed, executed, carried, written, read_out, completed}
 use Rattle.controller.specs.Instruction.{decoded}
 use Rattle.controller.specs.Oscillator.{in_range}
 use Rattle.controller.specs.Record.{reset_time, half_sound, sound, with_function, with_control, with_entry, with_shift, with_register}

@@ -1,9 +1,9 @@
 -- When a transfer is taken: a sound record, a whole memory, a kind and byte in order, and no need to wait.
 -- Assumes nothing.
-use mathlib.Core.Bool.{Bool, true, false, and_false}
+use mathlib.Core.Bool.{Bool, true, false, and-false}
 use mathlib.Core.List.{List}
 use mathlib.Core.Path.{◌≡◌, ap, ◌∙◌}
-use Prim.Native.Nat.{ℕ, ◌-◌, ◌≤◌}
+use Prim.Native.Nat.{ℕ, ◌≤◌}
 use lib.ListN.{length}
 use borrow.Author.Tests.{eq-eqb}
 use Rattle.controller.proofs.Laws.Record.{sound_counter, waited_over}
@@ -18,7 +18,7 @@ use Rattle.controller.specs.Record.{sound, busy_over, waited}
 -- a wait as long as the busy time lets every kind in
 pub covered : (kind wait : ℕ) (rec : Record) → rec.busy ≤ wait → must_wait kind (waited wait rec) ≡ false
 unfolding must_wait
-covered kind wait rec over = simp (waited_over wait rec over, and_false)
+covered kind wait rec over = simp (waited_over wait rec over, and-false)
 
 pub taken : (rec : Record) (mem : List ℕ) (kind byte wait : ℕ) → sound rec ≡ true → length mem ≡ 144 → bad_transfer kind byte ≡ false
     → must_wait kind (waited wait rec) ≡ false → decided rec mem kind byte wait ≡ accepted mem kind byte (waited wait rec)

@@ -58,7 +58,7 @@ p1 rec mem long =
     let wide : Wide fresh (blanked mem) = record { sound = reset_sound rec.frequency; whole = blanked_length mem long; wide = refl } in
     let told : (wait : ℕ) → Comes fresh (decided_of (after_reset rec mem) (status_read wait)) 0 (cond (ltb 0 (10000 - wait)) 0x80 0 + 0) (10000 - wait) =
     λ wait. subst (λ (s : State). Comes fresh (decided_of s (status_read wait)) 0 (cond (ltb 0 (10000 - wait)) 0x80 0 + 0) (10000 - wait)) (sym state)
-    ((data-rules.status fresh (blanked mem) wait wide).byte 0 (refl, omega arith)) in
+    ((data_rules.status fresh (blanked mem) wait wide).byte 0 (refl, omega arith)) in
     (((told 9999).answer, (told 9999).byte), ((told 10000).answer, (told 10000).byte))
 
 -- the counter's step, at either width
@@ -68,7 +68,7 @@ unfolding bad_transfer
 write_leads n counter from next to at steps there wide rec mem byte wait later w is_byte_lem lines up place = (at, go wide w, there)
   where
     wrote : (r : Record) → Waits r mem true Empty wait → r.entry.id ≡ true → r.counter ≡ counter → (decided r mem 1 byte wait).rec.counter ≡ next
-    wrote r w rises here = (data-rules.write r mem byte wait w).counter ∙ rw (rises, here) steps
+    wrote r w rises here = (data_rules.write r mem byte wait w).counter ∙ rw (rises, here) steps
 
     go : (wide : Bool) → Waits rec mem wide Empty wait → (taking wide rec mem 1 byte wait later).rec.counter ≡ next
     go true w = wrote rec w up place

@@ -12,7 +12,6 @@ use Rattle.controller.proofs.Theorems.Halves.{halves_make_whole, wide_waits}
 use Rattle.controller.proofs.Theorems.Rules.{clears}
 use Rattle.controller.proofs.Theorems.Sound.{transfer_keeps_sound}
 use Rattle.controller.specs.declared.cells.Counter.TheVariants.{Display}
-use Rattle.controller.specs.declared.decision.Decision.{Decision}
 use Rattle.controller.specs.declared.«record».Half.TheVariants.{Empty}
 use Rattle.controller.specs.declared.«record».Record.{Record}
 use Rattle.controller.specs.Bus.{bad_transfer, decided}

@@ -4,7 +4,7 @@ use mathlib.Core.Bool.{true, false, cond, true≢false}
 use mathlib.Core.List.{List}
 use mathlib.Core.Path.{◌≡◌, refl, sym, ap, subst, ◌∙◌}
 use Prim.Native.Nat.{ℕ, ◌+◌, ◌-◌, ◌/◌}
-use lib.Dec.{eqb, ltb}
+use lib.Dec.{ltb}
 use borrow.Author.Tests.{ne_eqb}
 use Rattle.controller.proofs.Laws.Rows.{bad_tests, early_tests, half_after, wide_after}
 use Rattle.controller.proofs.Laws.Taken.{accepted_narrow, taken}

@@ -1,6 +1,6 @@
 -- The instruction list, row by row: a byte's range says which row of the table it is, and the row's rule is read off field by field.
 -- Assumes nothing.
-use mathlib.Core.Bool.{Bool, true, false, cond, ◌&&◌, and_false}
+use mathlib.Core.Bool.{Bool, true, false, cond, ◌&&◌, and-false}
 use mathlib.Core.List.{List, ◌++◌}
 use mathlib.Core.Logic.{inl, inr}
 use mathlib.Core.Path.{◌≡◌, refl, sym, ap, subst, ◌∙◌}
@@ -452,7 +452,7 @@ module _ (wait : ℕ) (rec : Record) where
 -- a status read is never told to wait
 status_free : (rec : Record) → must_wait 2 rec ≡ false
 unfolding must_wait
-status_free rec = simp and_false
+status_free rec = simp and-false
 
 pub status_byte : (n : Bool) (counter : Counter) (rec : Record) (busy address : ℕ) → rec.function.n ≡ n → rec.counter ≡ counter → rec.busy ≡ busy
     → address_of n counter ≡ address → status_of rec ≡ cond (ltb 0 busy) 0x80 0 + address

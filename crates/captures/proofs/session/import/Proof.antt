@@ -53,7 +53,7 @@ returns c =
     let read = walk.before.before.before.before.before.before.before.before in
     let args = read.before.before.before.before.args in
     let is = judged_is args.capture.now read.read_head.result read.read_head.ensures.0 _ _ _ _ walk.walk.ensures _ _ _ inside.is-inside.ensures judge.before.lacks-code.ensures judge.judge.ensures in
-    refused _ _ _ _ is (sym c.before.before.is_done_lem.ensures ∙ not-true _ c.before.if1.true) c.refuse.ensures
+    refused _ _ _ _ is (sym c.before.before.is_done.ensures ∙ not-true _ c.before.if1.true) c.refuse.ensures
 
 refuse-requires-2 : tie.Need-refuse-requires-2
 refuse-requires-2 c κs = search rules
@@ -69,7 +69,7 @@ returns-2 c =
     let is = judged_is args.capture.now read.read_head.result read.read_head.ensures.0 _ _ _ _ walk.walk.ensures _ _ _ inside.is-inside.ensures judge.before.lacks-code.ensures judge.judge.ensures in
     let long = length-is args.capture.now read.read_head.result read.read_head.ensures.0 _ _ _ _ walk.walk.ensures in
     let small : length args.out.now < 9223372036854775808 = omega (arith, start.well-formed.0, start.well-formed.1.0) in
-    too_short_lem _ _ _ _ is (sym c.before.before.before.before.is_done_lem.ensures ∙ not-false _ c.before.before.before.if1.false)
+    too_short_lem _ _ _ _ is (sym c.before.before.before.before.is_done.ensures ∙ not-false _ c.before.before.before.if1.false)
     (⊎_elim (λ same. omega (arith, same, c.before.if2.true)) (λ big. omega (arith, big.1, small)) long) c.refuse2.ensures
 
 slice-aggregate-walk-3 : tie.Need-slice-aggregate-walk-3

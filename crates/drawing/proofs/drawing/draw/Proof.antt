@@ -26,7 +26,7 @@ returns c =
     let taken = asked.before.before in
     let start = taken.before.before.before.before in
     let told = taken.picture.ensures.told in
-    let not_done = sym asked.is_done_lem.ensures ∙ not-true _ c.before.if1.true in
+    let not_done = sym asked.is_done.ensures ∙ not-true _ c.before.if1.true in
     rw (c.refused.ensures, told) (refused_drawn _ _ _ _ _ _ (rw told at not_done))
 
 size-of-requires : tie.Need-size-of-requires
@@ -43,7 +43,7 @@ draw-taken-requires c κs =
     let asked = c.before.before.before.before.before.before in
     let taken = asked.before.before in
     let start = taken.before.before.before.before in
-    let done = sym asked.is_done_lem.ensures ∙ not-false _ c.before.before.before.before.before.if1.false in
+    let done = sym asked.is_done.ensures ∙ not-false _ c.before.before.before.before.before.if1.false in
     let shown = seen start.args.rec start.args.memory.now start.args.profile (rw taken.picture.ensures.told at done) in
     rw (c.before.before.rows_of.ensures, c.before.before.before.size_of.ensures) (seen_small _ _ _ shown)
 
@@ -57,7 +57,7 @@ returns-2 c =
     let asked = measured.before.before.before.before in
     let taken = asked.before.before in
     let start = taken.before.before.before.before in
-    let done = sym asked.is_done_lem.ensures ∙ not-false _ measured.before.before.before.if1.false in
+    let done = sym asked.is_done.ensures ∙ not-false _ measured.before.before.before.if1.false in
     let shown = seen start.args.rec start.args.memory.now start.args.profile (rw taken.picture.ensures.told at done) in
     taken_drawn _ _ _ _ _ _ shown
     (rw (measured.rows_of.ensures, measured.before.size_of.ensures, taken.picture.ensures.out) at drawn.draw-taken.ensures)

@@ -15,7 +15,7 @@ is-shown-requires c κs = search rules
 
 returns : tie.Need-returns
 unfolding is_spare
-returns c = simp (c.is_shown_lem.ensures, lt-ltb _ _ c.before.if1.true)
+returns c = simp (c.is_shown.ensures, lt-ltb _ _ c.before.if1.true)
 
 returns-2 : tie.Need-returns-2
 unfolding is_spare

@@ -19,7 +19,7 @@ address-set-requires-2 c κs = search rules
 
 returns : tie.Need-returns
 unfolding address_shown
-returns c = simp (c.address_set_lem.ensures, c.before.enum_told.given.1)
+returns c = simp (c.address_set.ensures, c.before.enum_told.given.1)
 
 returns-2 : tie.Need-returns-2
 unfolding address_shown

@@ -96,7 +96,7 @@ returns c =
       c.before.hex-digit.ensures,
       told.address-shown.ensures,
       told.before.two-wide.ensures,
-      told.before.before.cell_of_lem.ensures,
+      told.before.before.cell_of.ensures,
       told.before.before.before.memory-shown.ensures,
     )
 

@@ -16,7 +16,7 @@ placed-requires c κs = search rules
 
 returns : tie.Need-returns
 unfolding stored
-returns c = simp (c.placed.ensures, sym c.before.before.is_done_lem.ensures ∙ not-true _ c.before.if1.true) (search rules)
+returns c = simp (c.placed.ensures, sym c.before.before.is_done.ensures ∙ not-true _ c.before.if1.true) (search rules)
 
 refused-requires : tie.Need-refused-requires
 refused-requires c κs = search rules

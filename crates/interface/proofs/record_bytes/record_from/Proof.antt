@@ -82,7 +82,7 @@ half-from-requires c κs = search rules
 
 returns : tie.Need-returns
 unfolding record_from
-returns c = simp (c.half-from.ensures, c.before.before.before.frequency-from.ensures, c.before.before.before.before.before.before.number_from_lem.ensures, c.before.before.before.before.before.before.before.before.before.before.before.before.before.counter-from.ensures)
+returns c = simp (c.half-from.ensures, c.before.before.before.frequency-from.ensures, c.before.before.before.before.before.before.number_from.ensures, c.before.before.before.before.before.before.before.before.before.before.before.before.before.counter-from.ensures)
 
 pub record_from_spec : {M : Type 1} → statement M
 record_from_spec =

@@ -17,7 +17,7 @@ returns : tie.Need-returns
 unfolding wait_of
 returns c =
     let first = c.before in
-    simp (sym first.before.text_at.ensures, sym first.worth_of_lem.ensures, lt-ltb _ _ c.if1.true)
+    simp (sym first.before.text_at.ensures, sym first.worth_of.ensures, lt-ltb _ _ c.if1.true)
 
 read-rest-requires : tie.Need-read-rest-requires
 read-rest-requires c κs = search rules
@@ -27,7 +27,7 @@ unfolding wait_of
 returns-2 c =
     let first = c.before.before in
     c.read-rest.ensures
-    ∙ simp (sym first.before.text_at.ensures, sym first.worth_of_lem.ensures, le-ltb _ _ c.before.if1.false)
+    ∙ simp (sym first.before.text_at.ensures, sym first.worth_of.ensures, le-ltb _ _ c.before.if1.false)
 
 pub read_wait_spec : {M : Type 1} → statement M
 read_wait_spec =

@@ -13,7 +13,7 @@ address-set-requires c κs = search rules
 
 returns : tie.Need-returns
 unfolding address_byte
-returns c = simp (c.address_set_lem.ensures, c.before.counter_at.ensures)
+returns c = simp (c.address_set.ensures, c.before.counter_at.ensures)
 
 pub address_byte_spec : {M : Type 1} → statement M
 address_byte_spec = tie.close (tie.spec counter-at-requires address-set-requires returns)

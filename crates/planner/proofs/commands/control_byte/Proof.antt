@@ -10,7 +10,7 @@ worth-of-requires : tie.Need-worth-of-requires
 worth-of-requires c κs = search rules
 
 add-result : tie.Need-overflow-add-result
-add-result c = omega (arith, c.worth_of_lem.ensures, worth_small 0x04 c.before.args.control.d)
+add-result c = omega (arith, c.worth_of.ensures, worth_small 0x04 c.before.args.control.d)
 
 worth-of-requires-2 : tie.Need-worth-of-requires-2
 worth-of-requires-2 c κs = search rules
@@ -28,7 +28,7 @@ add-result-3 c =
     let at = c.before.before.before.args.control in
     omega (
       arith,
-      c.before.before.worth_of_lem.ensures,
+      c.before.before.worth_of.ensures,
       c.before.worth-of2.ensures,
       c.worth-of3.ensures,
       worth_small 0x04 at.d,

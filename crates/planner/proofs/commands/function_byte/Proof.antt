@@ -10,7 +10,7 @@ worth-of-requires : tie.Need-worth-of-requires
 worth-of-requires c κs = search rules
 
 add-result : tie.Need-overflow-add-result
-add-result c = omega (arith, c.worth_of_lem.ensures, worth_small 0x08 c.before.args.function.n)
+add-result c = omega (arith, c.worth_of.ensures, worth_small 0x08 c.before.args.function.n)
 
 worth-of-requires-2 : tie.Need-worth-of-requires-2
 worth-of-requires-2 c κs = search rules

@@ -68,7 +68,7 @@ same_length : tie.Need-same-length
 same_length c = simp length-set
 
 returns : tie.Need-returns
-returns c = simp (add-one, add-two, add-three, add-four, add_five, c.six_bytes_lem.ensures)
+returns c = simp (add-one, add-two, add-three, add-four, add_five, c.six_bytes.ensures)
 
 pub put_spec : {M : Type 1} → statement M
 put_spec =

@@ -11,7 +11,7 @@ long-time-requires : tie.Need-long-time-requires
 long-time-requires c κs = search rules
 
 returns : tie.Need-returns
-returns c = simp (c.long_time_lem.ensures, c.before.short-time.ensures)
+returns c = simp (c.long_time.ensures, c.before.short-time.ensures)
 
 pub times_at_spec : {M : Type 1} → statement M
 times_at_spec = tie.close (tie.spec short-time-requires long-time-requires returns)

@@ -25,15 +25,15 @@ returns c = simp (c.marks-fit.ensures, sym c.before.before.is_in_range.ensures �
 
 returns-2 : tie.Need-returns-2
 unfolding is_wish
-returns-2 c = simp (sym c.before.is_in_range.ensures ∙ c.if4.false, c.before.is_in_range.ensures, lt-ltb _ _ c.before.before.if3.true, lt-ltb _ _ (rw c.before.before.before.before.before.before.line_length_lem.ensures at c.before.before.before.before.if2.true), sym c.before.before.before.before.before.before.before.before.is-allowed.ensures ∙ c.before.before.before.before.before.before.before.if1.true)
+returns-2 c = simp (sym c.before.is_in_range.ensures ∙ c.if4.false, c.before.is_in_range.ensures, lt-ltb _ _ c.before.before.if3.true, lt-ltb _ _ (rw c.before.before.before.before.before.before.line_length.ensures at c.before.before.before.before.if2.true), sym c.before.before.before.before.before.before.before.before.is-allowed.ensures ∙ c.before.before.before.before.before.before.before.if1.true)
 
 returns-3 : tie.Need-returns-3
 unfolding is_wish
-returns-3 c = simp (le-ltb _ _ c.if3.false, lt-ltb _ _ (rw c.before.before.before.before.line_length_lem.ensures at c.before.before.if2.true), sym c.before.before.before.before.before.before.is-allowed.ensures ∙ c.before.before.before.before.before.if1.true)
+returns-3 c = simp (le-ltb _ _ c.if3.false, lt-ltb _ _ (rw c.before.before.before.before.line_length.ensures at c.before.before.if2.true), sym c.before.before.before.before.before.before.is-allowed.ensures ∙ c.before.before.before.before.before.if1.true)
 
 returns-4 : tie.Need-returns-4
 unfolding is_wish
-returns-4 c = simp (le-ltb _ _ (rw c.before.before.line_length_lem.ensures at c.if2.false), c.before.before.line_length_lem.ensures, sym c.before.before.before.before.is-allowed.ensures ∙ c.before.before.before.if1.true)
+returns-4 c = simp (le-ltb _ _ (rw c.before.before.line_length.ensures at c.if2.false), c.before.before.line_length.ensures, sym c.before.before.before.before.is-allowed.ensures ∙ c.before.before.before.if1.true)
 
 returns-5 : tie.Need-returns-5
 unfolding is_wish

@@ -27,7 +27,7 @@ unfolding counting
 returns-3 c =
     simp (
       ne_eqb _ _ c.before.if2.false,
-      sym c.before.before.before.before.is_refusal_lem.ensures ∙ not-false _ c.before.before.before.if1.false,
+      sym c.before.before.before.before.is_refusal.ensures ∙ not-false _ c.before.before.before.if1.false,
     )
 
 pub counted_spec : {M : Type 1} → statement M

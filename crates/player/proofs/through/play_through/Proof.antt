@@ -46,7 +46,7 @@ returns c =
     let begin = set.before.before.before.before in
     let played = read_up_to begin.args.most begin.args.text.now in
     let none = c.before.before.before.before.before.before.before.no-refusal in
-    let begins = reset_starts begin.args.frequency set.before.before.after_reset_lem.result set.before.before.after_reset_lem.ensures set.reset.ensures in
+    let begins = reset_starts begin.args.frequency set.before.before.after_reset.result set.before.before.after_reset.ensures set.reset.ensures in
     ap (λ (w : Walked). w.stands) c.before.before.before.before.walk.ensures
     ∙ ap (λ (s : State). leaving 1 0 none.result s played) begins
     ∙ ap (λ (tally : Tally). leaving 1 0 tally (start begin.args.frequency) played) none.ensures

@@ -50,7 +50,7 @@ counted-requires c κs = search rules
 add-t18 : tie.Need-overflow-add-t18
 add-t18 c =
     let start = c.before.before.before.before.before.before.before.before.before.before.before.before.before.before.before.before.before.before.before.before in
-    let good = sym c.before.before.before.before.before.before.before.before.before.before.before.before.before.before.is_done_lem.ensures ∙ not-false _ c.before.before.before.before.before.before.before.before.before.before.before.before.before.if1.false in
+    let good = sym c.before.before.before.before.before.before.before.before.before.before.before.before.before.before.is_done.ensures ∙ not-false _ c.before.before.before.before.before.before.before.before.before.before.before.before.before.if1.false in
     let inside = (line_inside start.args.text.now start.args.place.from start.requires.1 c.before.before.before.before.before.before.before.before.before.before.before.before.before.before.before.read-line.ensures good).1 in
     let few : length start.args.text.now < 2 ^ 64 = omega arith in
     omega arith

@@ -52,7 +52,7 @@ loop-again c =
     let played = c.before.before.before.before.before.before.before in
     let begin = c.before.before.before.before.before.before.before.before.before.before.before.before in
     let inv = begin.before.loop.invariant in
-    let went = played.play-line.ensures.goes (sym c.before.before.is_done_lem.ensures ∙ not-false _ c.before.if2.false) in (
+    let went = played.play-line.ensures.goes (sym c.before.before.is_done.ensures ∙ not-false _ c.before.if2.false) in (
       played.play-line.auto.1.1.1.0 ∙ inv.0,
       played.play-line.auto.1.1.1.1.0 ∙ inv.1,
       went.fits,
