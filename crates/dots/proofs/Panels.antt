@@ -1,7 +1,7 @@
 -- Laws of the panels: how large they are, and how their positions and the places in the controller's lines belong together.
 -- Assumes nothing.
-use mathlib.Core.Bool.{Bool, true, false, ◌&&◌, false≢true}
-use mathlib.Core.Path.{◌≡◌, refl, ap}
+use mathlib.Core.Bool.{true, ◌&&◌, false≢true}
+use mathlib.Core.Path.{◌≡◌, refl}
 use Prim.Native.Nat.{ℕ, ◌+◌, ◌*◌, ◌/◌, ◌%◌, ◌≤◌, ◌<◌}
 use native.Mathlib.Nat.{mul-le-mul}
 use native.Mathlib.Omega.{arith}
@@ -9,7 +9,6 @@ use borrow.Author.Tests.{leb-true, lt-ltb, ltb-true}
 use lib.Dec.{leb, ltb}
 use Rattle.controller.specs.declared.«record».Function.{Function}
 use Rattle.controller.proofs.Laws.Choice.{and_left, and_right}
-use Rattle.dots.specs.declared.panel.Place.{Place}
 use Rattle.dots.specs.declared.panel.Profile.{Profile}
 use Rattle.dots.specs.declared.panel.Profile.TheVariants.{Plain, FourRows, Divided, Unknown}
 use Rattle.dots.specs.declared.panel.Size.{Size}

@@ -1,17 +1,15 @@
 -- The theorems of specs/Profiles.antt.
 -- Assumes nothing.
-use mathlib.Core.Bool.{Bool, true, false, cond, ◌&&◌}
-use mathlib.Core.List.{List}
+use mathlib.Core.Bool.{Bool, true, false}
 use mathlib.Core.Path.{◌≡◌, refl, sym, ap, ◌∙◌}
 use Prim.Native.Nat.{ℕ, ◌+◌, ◌-◌, ◌*◌, ◌/◌, ◌%◌, ◌≤◌, ◌<◌}
 use native.Mathlib.Nat.{add-mul, add-mul-mod_self_right, div-add-mod', mod-add-mod, mod-eq_of_lt, mod-lt, one-mul}
 use native.Mathlib.Omega.{arith}
-use borrow.Author.Tests.{le-ltb, lt-ltb, ltb-true}
+use borrow.Author.Tests.{le-ltb, lt-ltb}
 use lib.Dec.{ltb}
-use Rattle.controller.specs.declared.«record».Record.{Record}
 use Rattle.controller.specs.Cells.{add_of_cell, line_length}
 use Rattle.controller.proofs.Laws.Choice.{and_left, and_right}
-use Rattle.dots.specs.declared.geometry.Shown.TheVariants.{Cell, Undriven}
+use Rattle.dots.specs.declared.geometry.Shown.TheVariants.{Cell}
 use Rattle.dots.specs.declared.panel.Profile.{Profile}
 use Rattle.dots.specs.declared.panel.Profile.TheVariants.{Plain, FourRows, Divided, Unknown}
 use Rattle.dots.specs.Geometry.{cell_at, cell_in, driven_lines, is_shown_in, shown_at}
@@ -160,7 +158,7 @@ on_glass_lem n shift profile cell fits = (there, here)
           column = at.column;
           on_line = at.on_line;
           on_column = at.on_column;
-          shows = rw (at.line-is, at.position-is) (found (driven_lines n) (line_length n) shift cell (line_some n) (and_left _ _ is));
+          shows = rw (at.line_is, at.position_is) (found (driven_lines n) (line_length n) shift cell (line_some n) (and_left _ _ is));
         }
 
     here : Position n shift profile cell → is_shown_in (driven_lines n) (line_length n) shift profile cell ≡ true

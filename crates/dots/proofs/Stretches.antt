@@ -157,18 +157,18 @@ module _ (rec : Record) (profile : Profile) (at : ℕ) (part : Part) (place : Pl
   -- Its row is one of a line's, and each of its columns stands within 40 positions.
   pub begun_row : part.row < height rec.function
   unfolding part_at
-  begun_row = rw b.part-is (mod-lt _ (height_some rec.function))
+  begun_row = rw b.part_is (mod-lt _ (height_some rec.function))
 
   pub begun_within : fits_glass profile ≡ true → at < stretches profile * height rec.function → (i : ℕ) → i < columns → place.position + i < 40
   begun_within fits within i h =
-      rw (b.place_is, b.part-is)
-      (part-within profile (height rec.function) at fits (height_some rec.function) within i (rw b.columns-is at h))
+      rw (b.place_is, b.part_is)
+      (part-within profile (height rec.function) at fits (height_some rec.function) within i (rw b.columns_is at h))
 
   -- Its bytes are that part of the picture.
   pub begun_painted : (shapes mem : List ℕ) (lit : Bool) (out : List ℕ)
       → painted (along shapes rec mem lit part place (at * columns)) (at * columns) columns out
       ≡ painted (picture_byte shapes rec mem lit profile) (at * stretch profile) (stretch profile) out
   begun_painted shapes mem lit out =
-      rw (b.place_is, b.part-is, b.columns-is)
+      rw (b.place_is, b.part_is, b.columns_is)
       (painted_alike _ _ (at * stretch profile) (stretch profile) out
       (λ i h. sym (along_next shapes rec mem lit (part_at profile (height rec.function) at) _ (at * stretch profile) i) ∙ part_is_byte shapes rec mem lit profile at i h))

@@ -1,7 +1,7 @@
 -- The panels: their sizes, and where each position of their glass stands in the controller's lines (document 01, "The dots";
 -- document 02, request e). Lines and columns count from 0, so that the third row of a panel is line 2 of its glass.
 -- Assumes nothing.
-use Rattle.std.specs.Prelude.{Bool, true, false, ◌&&◌, ◌≡◌, ℕ, ◌+◌, ◌*◌, ◌/◌, ◌%◌, ◌<◌, ltb, leb}
+use Rattle.std.specs.Prelude.{Bool, true, false, ◌&&◌, ℕ, ◌+◌, ◌*◌, ◌/◌, ◌%◌, ltb, leb}
 use Rattle.dots.specs.declared.panel.Place.{Place}
 use Rattle.dots.specs.declared.panel.Profile.{Profile}
 use Rattle.dots.specs.declared.panel.Profile.TheVariants.{Plain, FourRows, Divided, Unknown}

@@ -326,7 +326,7 @@ module _ (text : List ℕ) (kind byte : ℕ) (is : ByteIs text kind byte) (answe
   unfolding line_of with_kind with_byte with_wait line kind_field byte_field
   wait-faults =
       let h = halts in
-      let place = h.is-place in
+      let place = h.is_place in
       let long = is.inside in
       let left = length-drop 5 text in
       let few = h.few in
@@ -455,7 +455,7 @@ module _ (text : List ℕ) (kind byte : ℕ) (is : ByteIs text kind byte) (answe
   wait-number =
       let h = halts text kind byte is answer at bad in
       number_wait text kind byte h.count h.wait answer h.inside (more-than-five text kind byte is answer at bad h.count) h.why
-      ∙ ap (number_at text) (sym h.is-place)
+      ∙ ap (number_at text) (sym h.is_place)
 
 -- a line is read, or it has a fault: where it is, which it is, and its number by its place
 pub line_cases : {A : Type 0} (text : List ℕ)

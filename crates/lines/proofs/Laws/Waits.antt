@@ -200,7 +200,7 @@ rest_stops_at (byte ∷ rest) place value answer at below bad =
       count = suc s.count;
       wait = s.wait;
       why = s.why;
-      is_place = let p = s.is-place in omega arith;
+      is_place = let p = s.is_place in omega arith;
       inside = let i = s.inside in omega arith;
       digits = sym (append_assoc (decimal value) (byte ∷ []) (take s.count rest))
           ∙ ap (λ (l : List ℕ). l ++ take s.count rest) (sym longer) ∙ s.digits;
@@ -263,7 +263,7 @@ begun_halts (byte ∷ rest) place answer at bad =
       count = suc s.count;
       wait = s.wait;
       why = inr (omega arith, all, s.why);
-      is_place = let p = s.is-place in omega arith;
+      is_place = let p = s.is_place in omega arith;
       inside = let i = s.inside in omega arith;
       first = all ∙ sym (take_at (decimal s.wait) (newline ∷ []) (suc s.count) (sym long));
       below = s.below;

@@ -2,14 +2,14 @@
 -- Assumes nothing.
 use mathlib.Core.Bool.{true, false, ◌&&◌}
 use mathlib.Core.List.{List, [], ◌∷◌, ◌++◌}
-use mathlib.Core.Path.{◌≡◌, refl, sym, ap, ◌∙◌}
+use mathlib.Core.Path.{◌≡◌, ap, ◌∙◌}
 use Prim.Native.Nat.{ℕ, ◌+◌, ◌*◌, ◌/◌, ◌%◌, ◌<◌, ◌≤◌}
 use native.Mathlib.Omega.{arith}
 use borrow.Author.Tests.{leb-true, le-leb, ne_eqb}
 use lib.Dec.{leb, eqb}
 use lib.ListN.{length}
 use Rattle.controller.proofs.Laws.Choice.{and_left, and_right}
-use Rattle.lines.proofs.Laws.Digits.{either, decimal_small, decimal_split, decimal_more, digit_worth, worth_digit}
+use Rattle.lines.proofs.Laws.Digits.{either, decimal_small, decimal_split, digit_worth, worth_digit}
 use Rattle.lines.specs.Digits.{decimal, digit, three_digits, three_say, worth_of}
 use Rattle.lines.specs.Theorems.{ThreeDigitsRead}
 

@@ -3,7 +3,7 @@
 use mathlib.Core.Bool.{Bool, true, false}
 use mathlib.Core.List.{List, ◌++◌}
 use mathlib.Core.Path.{◌≡◌, refl, ap, ◌∙◌}
-use Prim.Native.Nat.{ℕ, zero, suc, ◌+◌, ◌-◌, ◌<◌}
+use Prim.Native.Nat.{ℕ, zero, suc, ◌+◌, ◌<◌}
 use native.Mathlib.Omega.{arith}
 use lib.ListN.{replicate}
 use borrow.Author.Tests.{ne_eqb}
@@ -20,7 +20,6 @@ use Rattle.controller.specs.declared.instruction.Instruction.{Instruction}
 use Rattle.controller.specs.declared.instruction.Instruction.TheVariants.{SetEntry, SetControl, SetFunction}
 use Rattle.controller.specs.declared.«record».Control.{Control}
 use Rattle.controller.specs.declared.«record».Entry.{Entry}
-use Rattle.controller.specs.declared.«record».Function.{Function}
 use Rattle.controller.specs.declared.«record».Record.{Record}
 use Rattle.planner.proofs.Demand.Command.{instruct}
 use Rattle.planner.proofs.Demand.Opening.{Steady, empty_quiet}
@@ -28,8 +27,7 @@ use Rattle.planner.proofs.Demand.Safe.{Scene, Inv, Safe, short_enough, long_enou
 use Rattle.planner.proofs.Laws.Wish.{worth_small}
 use Rattle.planner.specs.declared.pen.Times.{Times}
 use Rattle.planner.specs.declared.wish.Wish.{Wish}
-use Rattle.planner.specs.Plan.{Command, instruction, worth, set_up, ending, commands, time_of, in_halves}
-use Rattle.planner.specs.Wish.{marked}
+use Rattle.planner.specs.Plan.{Command, instruction, worth, set_up, time_of, in_halves}
 
 -- the bytes of the commands, read back as instructions
 function_byte : (n f : Bool) → decoded (0x20 + worth 0x08 n + worth 0x04 f) ≡ SetFunction false (record { n = n; f = f })

@@ -1,7 +1,7 @@
 -- Demand 3: the ending, the whole plan, and any number of cut runs of it. It is enough that the times the plan goes by are those of
 -- the controller or longer, so that a plan for a slower module serves on a faster one.
 -- Assumes nothing.
-use mathlib.Core.Bool.{Bool, true, false, false≢true}
+use mathlib.Core.Bool.{Bool, true, false≢true}
 use mathlib.Core.List.{[], ◌++◌}
 use mathlib.Core.Logic.{inl, ⊎_elim}
 use mathlib.Core.Path.{◌≡◌, refl, sym, ap, subst, ◌∙◌}

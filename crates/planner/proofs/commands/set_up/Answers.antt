@@ -1,0 +1,9 @@
+-- `planner::commands::set_up` meets its contract: four commands, one behind the other.
+-- Assumes nothing.
+use Rattle.planner.proofs.Laws.Written.{wrote_append}
+use Rattle.planner.proofs.commands.set_up.Goals as goal
+
+pub returns : goal.returns
+returns c =
+    wrote_append (rw c.function_byte.ensures at c.send-first.ensures)
+    (wrote_append c.send-second.ensures (wrote_append c.send-third.ensures c.send.ensures))
