@@ -18,7 +18,7 @@ import sys
 
 STRING = re.compile(r'"(?:[^"\\]|\\.)*"')
 TOKEN = re.compile(r"((?:[^\s(){}\[\];,.:\"«»`|]+\.)?)([^\s(){}\[\];,.:\"«»`|]+)")
-DEFINED = re.compile(r"^(?:  pub )?(?:(?:pub|abbrev|unfoldable|data|ruleset)\s+)*([a-z][A-Za-z0-9_'+-]*)\s*:\s*(.*)")
+DEFINED = re.compile(r"^ *(?:(?:pub|abbrev|unfoldable|data|ruleset)\s+)*([a-z][A-Za-z0-9_'+-]*)\s*:\s*(.*)")
 FIELD = re.compile(r"^  +(?:pub )?([a-z][A-Za-z0-9_'-]*) :")
 GOAL = re.compile(r"^(tie\.|statement\b|goal\.)")
 
@@ -43,18 +43,31 @@ def files(root):
     return sorted(antt), sorted(rt), sorted(edits), sorted(pages)
 
 
+def foreign(paths):
+    """The names that some file imports from a library: they stay, also where this repository has a name of that spelling."""
+    own = {re.search(r"crates.(\w+).(?:specs|proofs)", path).group(1) for path in paths}
+    names = set()
+    for path in paths:
+        for found in re.finditer(r"(?m)^\s*(?:pub )?use ([^\s{]+)\.\{([^}]*)\}", read(path)):
+            parts = found.group(1).split(".")
+            if parts[0] != "Rattle" or parts[1] not in own:
+                names |= {name.strip().split(" as ")[0] for name in found.group(2).split(",")}
+    return names
+
+
 def defined(paths):
     """The names to be respelled, the fields among them, the names that proofs answer by, and the lemmas in snake case already."""
     old, answers, fields, lemmas = collections.OrderedDict(), set(), set(), set()
     for path in paths:
-        proof = os.path.basename(path) == "Proof.antt"
+        proof = os.path.basename(path) in ("Proof.antt", "Answers.antt", "Invariants.antt")
         for line in read(path).split("\n"):
             found = DEFINED.match(line)
+            if found and proof and line.startswith(" "):
+                continue
             if found and proof and GOAL.match(found.group(2)):
                 answers.add(found.group(1))
                 continue
-            if "/specs/" in path and FIELD.match(line):
-                found = FIELD.match(line)
+            if found and not proof and line.startswith(" "):
                 fields.add(found.group(1))
             if found and snake(found.group(1)) != found.group(1):
                 old.setdefault(found.group(1), path)
@@ -88,8 +101,9 @@ def turned(text, new, fields):
 
     def one(found):
         before, name = found.groups()
-        ours = not before or before[0].isupper() or name in fields
-        return before + (new.get(name, name) if ours else name)
+        if before and not before[0].isupper():
+            return before + (snake(name) if name in fields else name)
+        return before + new.get(name, name)
 
     parts, at = [], 0
     for string in STRING.finditer(text):
@@ -103,14 +117,21 @@ def in_backquotes(text, new, fields):
     return re.sub(r"`[^`\n]+`", lambda m: turned(m.group(), new, fields), text)
 
 
-def antt(text, new, fields):
+def antt(text, new, fields, in_specs=True):
     lines = []
     for line in text.split("\n"):
         if line.lstrip().startswith("--"):
             lines.append(in_backquotes(line, new, fields))
         else:
+            field = FIELD.match(line)
+            if field and in_specs and field.group(1) in fields:
+                line = line.replace(field.group(1), snake(field.group(1)), 1)
             lines.append(turned(line, new, fields))
     return "\n".join(lines)
+
+
+def proof(text, new, fields):
+    return antt(text, new, fields, False)
 
 
 def rust(text, new, fields):
@@ -136,11 +157,14 @@ def main(argv):
     root = argv[0] if argv else "."
     specs_and_proofs, sources, edits, pages = files(root)
     names, fields, lemmas = defined(specs_and_proofs)
+    names = [name for name in names if name not in foreign(specs_and_proofs)]
     tokens = set()
     for path in specs_and_proofs:
         tokens |= spoken(read(path))
     new = renaming(names, lemmas, tokens - fields)
-    for turn, paths in ((antt, specs_and_proofs), (rust, sources), (edit, edits), (in_backquotes, pages)):
+    specs = [path for path in specs_and_proofs if "/specs/" in path]
+    proofs = [path for path in specs_and_proofs if "/specs/" not in path]
+    for turn, paths in ((antt, specs), (proof, proofs), (rust, sources), (edit, edits), (in_backquotes, pages)):
         for path in paths:
             before = read(path)
             after = turn(before, new, fields)

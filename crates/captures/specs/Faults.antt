@@ -5,7 +5,6 @@ use Rattle.captures.specs.declared.faults.Fault.{Fault}
 use Rattle.captures.specs.declared.faults.Fault.TheVariants.{Unfinished, Misplaced, Twice, Undeclared}
 use Rattle.captures.specs.declared.faults.Wrong.{Wrong}
 use Rattle.captures.specs.declared.form.Phase.{Phase}
-use Rattle.captures.specs.declared.form.Phase.TheVariants as Phase
 use Rattle.captures.specs.Words.{Word, words, is_empty}
 use Rattle.captures.specs.declared.faults.Unknown.{Unknown}
 use Rattle.captures.specs.declared.scan.Scan.{Scan}

@@ -1,15 +1,14 @@
 -- A capture as a session: each fall of E is a transfer, written as a session line (request b).
 -- Assumes nothing.
-use Rattle.std.specs.Prelude.{ℕ, ◌+◌, ◌-◌, ◌*◌, ◌%◌, Bool, true, false, cond, not, ◌&&◌, ◌||◌, List, [], ◌∷◌, ◌++◌, length, ◌==◌}
+use Rattle.std.specs.Prelude.{ℕ, ◌+◌, ◌-◌, ◌*◌, ◌%◌, Bool, false, cond, not, ◌&&◌, ◌||◌, List, [], ◌∷◌, length, ◌==◌}
 use Rattle.controller.specs.declared.answers.Answer.{Answer}
 use Rattle.controller.specs.Answers.{is_done}
 use Rattle.controller.specs.declared.answers.Answer.TheVariants.{OutsideSubset, SignalMissing, LevelUnknown, Done}
 use Rattle.controller.specs.declared.sent.Sent.{Sent}
 use Rattle.lines.specs.Line.{lines_of}
 use Rattle.lines.specs.Writing.{Writing, refusing, wanting}
-use Rattle.captures.specs.declared.form.Phase.TheVariants.{Section}
 use Rattle.captures.specs.declared.scan.Scan.{Scan}
-use Rattle.captures.specs.Words.{Word, words}
+use Rattle.captures.specs.Words.{words}
 use Rattle.captures.specs.Form.{is_whole}
 use Rattle.captures.specs.Definitions.{Head, blank_head, defined_by, lacks_code}
 use Rattle.captures.specs.Falls.{Fall, blank_scan, level_at, scanned_by, falls_from}

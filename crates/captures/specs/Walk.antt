@@ -2,7 +2,7 @@
 -- Assumes nothing.
 use Rattle.std.specs.Prelude.{◌≡◌, ℕ, ◌+◌, ◌-◌, ◌≤◌, Bool, true, false, cond, ◌&&◌, ◌||◌, List, [], ◌∷◌, length, take, drop, nat_le, nat_lt}
 use Rattle.lines.specs.Line.{line}
-use Rattle.lines.specs.Text.{Put, put, putting}
+use Rattle.lines.specs.Text.{put, putting}
 use Rattle.captures.specs.declared.falls.Tally.{Tally}
 use Rattle.captures.specs.declared.definitions.Codes.{Codes}
 use Rattle.captures.specs.declared.definitions.Head as places

@@ -64,34 +64,34 @@ unfolding row_of
 rows_08 shapes mem row = refl
 
 module _ (mem : List ℕ) (cell : ℕ) (display : cell < 80) (within : cell < length mem) (holds : get_or mem cell 0 ≡ 0x00) where
-  code-08 : (shapes : List ℕ) (code row : ℕ) → row_of shapes (set mem cell 0x08) code row ≡ row_of shapes mem code row
+  code_08 : (shapes : List ℕ) (code row : ℕ) → row_of shapes (set mem cell 0x08) code row ≡ row_of shapes mem code row
   unfolding row_of
-  code-08 shapes code row =
+  code_08 shapes code row =
       rw (get_or-set_other mem cell (80 + code % 8 * 8 + row) 0x08 0 (λ e. omega arith)) refl
 
-  cell-08 : (shapes : List ℕ) (at row : ℕ) → row_of shapes (set mem cell 0x08) (get_or (set mem cell 0x08) at 0) row ≡ row_of shapes mem (get_or mem at 0) row
-  cell-08 shapes at row = code-08 shapes _ row ∙ go (eqb at cell) refl
+  cell_08 : (shapes : List ℕ) (at row : ℕ) → row_of shapes (set mem cell 0x08) (get_or (set mem cell 0x08) at 0) row ≡ row_of shapes mem (get_or mem at 0) row
+  cell_08 shapes at row = code_08 shapes _ row ∙ go (eqb at cell) refl
     where
       go : (b : Bool) → eqb at cell ≡ b → row_of shapes mem (get_or (set mem cell 0x08) at 0) row ≡ row_of shapes mem (get_or mem at 0) row
       go true e = rw (eqb-true at cell e, get_or-set_same mem cell 0x08 0 within, holds) (sym (rows_08 shapes mem row))
       go false e = rw (get_or-set_other mem cell at 0x08 0 (eqb-false at cell e)) refl
 
-  shown-08 : (shapes : List ℕ) (rec : Record) (lit : Bool) (row : ℕ) (shown : Shown) → shown_row shapes rec (set mem cell 0x08) lit row shown ≡ shown_row shapes rec mem lit row shown
+  shown_08 : (shapes : List ℕ) (rec : Record) (lit : Bool) (row : ℕ) (shown : Shown) → shown_row shapes rec (set mem cell 0x08) lit row shown ≡ shown_row shapes rec mem lit row shown
   unfolding shown_row cell_row
-  shown-08 shapes rec lit row (Cell at) = ap (λ (k : ℕ). cond (covered rec lit row at) 0b11111 k) (cell-08 shapes at row)
-  shown-08 shapes rec lit row Undriven = refl
+  shown_08 shapes rec lit row (Cell at) = ap (λ (k : ℕ). cond (covered rec lit row at) 0b11111 k) (cell_08 shapes at row)
+  shown_08 shapes rec lit row Undriven = refl
 
-  byte-08 : (rec : Record) (lit : Bool) (profile : Profile) (at : ℕ) → picture_byte font rec (set mem cell 0x08) lit profile at ≡ picture_byte font rec mem lit profile at
+  byte_08 : (rec : Record) (lit : Bool) (profile : Profile) (at : ℕ) → picture_byte font rec (set mem cell 0x08) lit profile at ≡ picture_byte font rec mem lit profile at
   unfolding picture_byte dots_at
-  byte-08 rec lit profile at = rw (shown-08 font rec lit) refl
+  byte_08 rec lit profile at = rw (shown_08 font rec lit) refl
 
-  output-08 : (rec : Record) (profile : Profile) (lit : Bool) (out : List ℕ) → output rec (set mem cell 0x08) profile lit out ≡ output rec mem profile lit out
+  output_08 : (rec : Record) (profile : Profile) (lit : Bool) (out : List ℕ) → output rec (set mem cell 0x08) profile lit out ≡ output rec mem profile lit out
   unfolding output answer_for whole
-  output-08 rec profile lit out = rw (length-set, fun_ext (byte-08 rec lit profile)) refl
+  output_08 rec profile lit out = rw (length-set, fun_ext (byte_08 rec lit profile)) refl
 
 pub p7 : P7
 p7 = (rows_08, λ rec mem profile lit out cell display holds. go rec mem profile lit out cell display holds (ltb cell (length mem)) refl)
   where
     go : (rec : Record) (mem : List ℕ) (profile : Profile) (lit : Bool) (out : List ℕ) (cell : ℕ) → cell < 80 → get_or mem cell 0 ≡ 0x00 → (b : Bool) → ltb cell (length mem) ≡ b → output rec (set mem cell 0x08) profile lit out ≡ output rec mem profile lit out
-    go rec mem profile lit out cell display holds true e = output-08 mem cell display (ltb-true _ _ e) holds rec profile lit out
+    go rec mem profile lit out cell display holds true e = output_08 mem cell display (ltb-true _ _ e) holds rec profile lit out
     go rec mem profile lit out cell display holds false e = rw (set_out mem cell 0x08 (ltb-false _ _ e)) refl

@@ -121,9 +121,9 @@ module _ (driven length shift cell : ℕ) (some : 0 < length) where
   line_of : (line position : ℕ) → cell_in driven length shift line position ≡ Cell cell → cell / length ≡ line
   line_of line position e = rw (sym (shown_at_lem driven length shift line position cell e).1) (row_of_place length line _ (mod-lt (position + shift) some))
 
-  position-of : (line position : ℕ) → position < length → cell_in driven length shift line position ≡ Cell cell
+  position_of : (line position : ℕ) → position < length → cell_in driven length shift line position ≡ Cell cell
       → (cell % length + (length - shift % length)) % length ≡ position
-  position-of line position within e =
+  position_of line position within e =
       let rest : cell % length ≡ (position + shift) % length =
       rw (sym (shown_at_lem driven length shift line position cell e).1) (column_of_place length line _ (mod-lt (position + shift) some)) in
       rw (rest, mod-add-mod) (turned_back length shift position within)
@@ -143,8 +143,8 @@ one_position n shift profile cell line column line' column' fits hl hl' hk hk' e
     let within' = place_within profile line' column' fits hl' hk' in
     place_one profile line column line' column' hl hl' hk hk'
     (sym (line_of (driven_lines n) (line_length n) shift cell (line_some n) _ _ e) ∙ line_of (driven_lines n) (line_length n) shift cell (line_some n) _ _ e')
-    (sym (position-of (driven_lines n) (line_length n) shift cell (line_some n) _ _ (omega arith) e)
-    ∙ position-of (driven_lines n) (line_length n) shift cell (line_some n) _ _ (omega arith) e')
+    (sym (position_of (driven_lines n) (line_length n) shift cell (line_some n) _ _ (omega arith) e)
+    ∙ position_of (driven_lines n) (line_length n) shift cell (line_some n) _ _ (omega arith) e')
 
 pub on_glass_lem : OnGlass
 unfolding is_shown_in
@@ -166,7 +166,7 @@ on_glass_lem n shift profile cell fits = (there, here)
         let long = line_long n in
         let within = place_within profile p.line p.column fits p.on_line p.on_column in
         let row = line_of (driven_lines n) (line_length n) shift cell (line_some n) _ _ p.shows in
-        let back = position-of (driven_lines n) (line_length n) shift cell (line_some n) _ _ (omega arith) p.shows in
+        let back = position_of (driven_lines n) (line_length n) shift cell (line_some n) _ _ (omega arith) p.shows in
         let driving = (shown_at_lem (driven_lines n) (line_length n) shift _ _ cell p.shows).0 in
         simp (row, back, driving, place_on profile p.line p.column fits p.on_line p.on_column)
 

@@ -106,24 +106,24 @@ rows_above Divided rows at e h = omega arith
 rows_above Unknown rows at e h = absurd (false≢true e)
 
 module _ (profile : Profile) (rows at : ℕ) (fits : fits_glass profile ≡ true) (some : 0 < rows) (within : at < stretches profile * rows) where
-  part-line : (part_at profile rows at).line < (size_of profile).lines
+  part_line : (part_at profile rows at).line < (size_of profile).lines
   unfolding part_at
-  part-line = (div-lt_iff_lt-mul some).1 (rows_above profile rows at fits within)
+  part_line = (div-lt_iff_lt-mul some).1 (rows_above profile rows at fits within)
 
   -- Its line and its column are small.
   pub part_small : ((part_at profile rows at).line ≤ 255) × ((part_at profile rows at).column ≤ 255)
   unfolding part_at
   part_small = (
-    omega (arith, part-line, panel_lines profile fits),
+    omega (arith, part_line, panel_lines profile fits),
     omega (arith, mod-lt (at * stretch profile) (panel_some profile fits), panel_columns profile fits),
   )
 
   -- Its columns stand one behind the other within 40 positions.
-  part-within : (i : ℕ) → i < stretch profile → (place_at profile (part_at profile rows at).line (part_at profile rows at).column).position + i < 40
+  part_within : (i : ℕ) → i < stretch profile → (place_at profile (part_at profile rows at).line (part_at profile rows at).column).position + i < 40
   unfolding part_at
-  part-within i h =
+  part_within i h =
       rw (along_position profile (at * stretch profile / (size_of profile).columns / rows) at i h)
-      at (place_within profile _ ((at * stretch profile + i) % (size_of profile).columns) fits part-line (mod-lt _ (panel_some profile fits)))
+      at (place_within profile _ ((at * stretch profile + i) % (size_of profile).columns) fits part_line (mod-lt _ (panel_some profile fits)))
 
 -- The dots at such a column are the byte of the picture.
 part_is_byte : (shapes : List ℕ) (rec : Record) (mem : List ℕ) (lit : Bool) (profile : Profile) (at i : ℕ) → i < stretch profile
@@ -162,7 +162,7 @@ module _ (rec : Record) (profile : Profile) (at : ℕ) (part : Part) (place : Pl
   pub begun_within : fits_glass profile ≡ true → at < stretches profile * height rec.function → (i : ℕ) → i < columns → place.position + i < 40
   begun_within fits within i h =
       rw (b.place_is, b.part_is)
-      (part-within profile (height rec.function) at fits (height_some rec.function) within i (rw b.columns_is at h))
+      (part_within profile (height rec.function) at fits (height_some rec.function) within i (rw b.columns_is at h))
 
   -- Its bytes are that part of the picture.
   pub begun_painted : (shapes mem : List ℕ) (lit : Bool) (out : List ℕ)

@@ -4,10 +4,9 @@ use mathlib.Core.Bool.{Bool, true, false, cond, false≢true}
 use mathlib.Core.List.{List}
 use mathlib.Core.Path.{◌≡◌, refl, sym, ap, ◌∙◌}
 use Prim.Native.Char.{code}
-use Prim.Native.Nat.{ℕ, ◌+◌, ◌-◌, ◌*◌, ◌/◌, ◌%◌, ◌≤◌, ◌<◌}
+use Prim.Native.Nat.{ℕ, ◌+◌, ◌-◌, ◌*◌, ◌/◌, ◌%◌, ◌<◌}
 use native.Mathlib.Omega.{arith}
 use borrow.Author.Tests.{eq-eqb, eqb-true, le-ltb, lt-ltb, ne_eqb}
-use lib.Dec.{eqb}
 use Rattle.controller.specs.declared.cells.Counter.{Counter}
 use Rattle.controller.specs.declared.cells.Counter.TheVariants.{Display, Pattern}
 use Rattle.controller.specs.declared.«record».Record.{Record}
@@ -18,7 +17,7 @@ use Rattle.dots.specs.Geometry.{shown_at}
 use Rattle.dots.proofs.Places.{column_of_place, row_of_place}
 use Rattle.drawing.specs.declared.grid.Grid.{Grid}
 use Rattle.drawing.specs.declared.drawing.Form.TheVariants.{Letters}
-use Rattle.drawing.specs.Letters.{caret_at, column_at, counter_shown, from_column, letter_at, letter_for, letter_shown, letters_at, letters_length, letters_width}
+use Rattle.drawing.specs.Letters.{caret_at, column_at, counter_shown, from_column, letter_at, letter_for, letters_at, letters_length, letters_width}
 use Rattle.drawing.specs.Drawing.{drawn_byte, letters_byte}
 use Rattle.drawing.proofs.Laws.Grid.{row_inside}
 use Rattle.drawing.specs.Theorems.{CaretInPlace, LettersInPlace, LettersKept, ShowsCounter}
@@ -73,11 +72,11 @@ caret_tells false is = let differ : ◌≡◌ {A = ℕ} 32 94 = is in absurd (om
 -- the test holds where the counter is on the cell that is shown
 record On (counter : Counter) (shown : Shown) : Type 0 where
   cell : ℕ
-  counter-is : counter ≡ Display cell
-  shown-is : shown ≡ Cell cell
+  counter_is : counter ≡ Display cell
+  shown_is : shown ≡ Cell cell
 
 on_shown : (counter : Counter) (shown : Shown) → counter_shown counter shown ≡ true → On counter shown
-on_shown (Display at) (Cell cell) is = record { cell = cell; counter-is = ap Display (eqb-true at cell is); shown-is = refl }
+on_shown (Display at) (Cell cell) is = record { cell = cell; counter_is = ap Display (eqb-true at cell is); shown_is = refl }
 on_shown (Pattern at) (Cell cell) is = absurd (false≢true is)
 on_shown counter Undriven is = absurd (false≢true is)
 
@@ -88,7 +87,7 @@ caret_in_place dots mem rec grid line column l k = (there, here)
     there is =
         let on = on_shown rec.counter (shown_at rec.function.n rec.shift grid.profile line column)
         (caret_tells _ (sym (caret_is rec grid.profile line column) ∙ (sym (caret_of dots mem rec grid line column l k) ∙ is))) in
-        record { cell = on.cell; counter = on.counter-is; shown = on.shown-is }
+        record { cell = on.cell; counter = on.counter_is; shown = on.shown_is }
 
     here : ShowsCounter rec grid.profile line column → drawn_byte Letters dots mem rec grid ((line * 2 + 1) * (grid.size.columns + 3) + (column + 1)) ≡ code "^"
     here shows = caret_of dots mem rec grid line column l k ∙ (caret_is rec grid.profile line column ∙ simp (shows.counter, shows.shown, eq-eqb shows.cell shows.cell refl))

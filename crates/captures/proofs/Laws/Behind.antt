@@ -104,24 +104,24 @@ abbrev pub SameDeclared : List Word → List Word → Type 0
 SameDeclared all other = (byte : ℕ) (code : Word) → declares (Section false) all (byte ∷ code) ≡ declares (Section false) other (byte ∷ code)
 
 module _ (all other codes : List Word) (alike : SameDeclared all other) where
-  scanned-all : (scan : Scan) (w : Word) → scanned all codes scan w ≡ scanned other codes scan w
+  scanned_all : (scan : Scan) (w : Word) → scanned all codes scan w ≡ scanned other codes scan w
   unfolding scanned moved stamp_of level_set
-  scanned-all scan [] = refl
-  scanned-all scan (a ∷ []) = refl
-  scanned-all scan (a ∷ b ∷ rest) = rw (alike b rest) refl
+  scanned_all scan [] = refl
+  scanned_all scan (a ∷ []) = refl
+  scanned_all scan (a ∷ b ∷ rest) = rw (alike b rest) refl
 
   pub scanned_by_all : (scan : Scan) (ws : List Word) → scanned_by all codes scan ws ≡ scanned_by other codes scan ws
   unfolding scanned_by
   scanned_by_all scan [] = refl
   scanned_by_all scan (w ∷ ws) =
-      ap (λ (s : Scan). scanned_by all codes s ws) (scanned-all scan w) ∙ scanned_by_all (scanned other codes scan w) ws
+      ap (λ (s : Scan). scanned_by all codes s ws) (scanned_all scan w) ∙ scanned_by_all (scanned other codes scan w) ws
 
   pub falls_all : (scan : Scan) (ws : List Word) → falls_from all codes scan ws ≡ falls_from other codes scan ws
   unfolding falls_from
   falls_all scan [] = refl
   falls_all scan (w ∷ ws) =
       ap (λ (l : List Fall). fall_at (ends scan w && falls scan) scan ++ l)
-      (ap (λ (s : Scan). falls_from all codes s ws) (scanned-all scan w) ∙ falls_all (scanned other codes scan w) ws)
+      (ap (λ (s : Scan). falls_from all codes s ws) (scanned_all scan w) ∙ falls_all (scanned other codes scan w) ws)
 
 -- an import looks at a capture's form, its missing signals and its falls alone
 unfoldable import_of : Bool → Bool → List Fall → List ℕ → Writing
@@ -158,42 +158,42 @@ scan_then start = scanned_by start (codes_then start) blank_scan start
 -- words that reach past the definitions say all that is defined
 module _ (start : List Word) (past-them : over (phase_after start) ≡ true) where
   module _ (capture : List ℕ) (rest : List Word) (is : words capture ≡ start ++ rest) where
-    codes-then : ((head_of capture).codes ≡ codes_then start) × ((head_of capture).twice ≡ twice_then start)
-    codes-then =
+    codes_then_lem : ((head_of capture).codes ≡ codes_then start) × ((head_of capture).twice ≡ twice_then start)
+    codes_then_lem =
         let parts : head_of capture ≡ defined_by (defined_by blank_head start) rest = ap (defined_by blank_head) is ∙ defined_append blank_head start rest in
         let reaches : over (defined_by blank_head start).phase ≡ true = ap over (defined_reached blank_head start) ∙ past-them in
         let none = defined_over (defined_by blank_head start) rest reaches in
         (ap (λ (h : Head). h.codes) parts ∙ sym none.0, ap (λ (h : Head). h.twice) parts ∙ sym none.1)
 
-    declared-then : SameDeclared (words capture) start
-    declared-then byte code =
+    declared_then : SameDeclared (words capture) start
+    declared_then byte code =
         ap (λ (l : List Word). declares (Section false) l (byte ∷ code)) is ∙ declares_start (Section false) start rest (byte ∷ code) past-them
 
-    pub scan-then : scan_of capture ≡ scanned_by start (codes_then start) (scan_then start) rest
-    scan-then =
-        ap (λ (codes : List Word). scanned_by (words capture) codes blank_scan (words capture)) codes-then.0
-        ∙ scanned_by_all (words capture) start (codes_then start) declared-then blank_scan (words capture)
+    pub scan_then_lem : scan_of capture ≡ scanned_by start (codes_then start) (scan_then start) rest
+    scan_then_lem =
+        ap (λ (codes : List Word). scanned_by (words capture) codes blank_scan (words capture)) codes_then_lem.0
+        ∙ scanned_by_all (words capture) start (codes_then start) declared_then blank_scan (words capture)
         ∙ ap (scanned_by start (codes_then start) blank_scan) is
         ∙ scanned_append start (codes_then start) blank_scan start rest
 
     falls_then : falls_of capture ≡ falls_in start (codes_then start) blank_scan start ++ falls_from start (codes_then start) (scan_then start) rest
     falls_then =
-        ap (λ (codes : List Word). falls_from (words capture) codes blank_scan (words capture)) codes-then.0
-        ∙ falls_all (words capture) start (codes_then start) declared-then blank_scan (words capture)
+        ap (λ (codes : List Word). falls_from (words capture) codes blank_scan (words capture)) codes_then_lem.0
+        ∙ falls_all (words capture) start (codes_then start) declared_then blank_scan (words capture)
         ∙ ap (falls_from start (codes_then start) blank_scan) is
         ∙ falls_append start (codes_then start) blank_scan start rest
 
-    pub subset-then : in_subset capture
+    pub subset_then : in_subset capture
         ≡ form_then start (scanned_by start (codes_then start) (scan_then start) rest).phase (scanned_by start (codes_then start) (scan_then start) rest).strange
     unfolding in_subset
-    subset-then =
+    subset_then =
         let seen = scanned_by start (codes_then start) (scan_then start) rest in
-        ap (λ (s : Scan). is_whole s.phase && (not (head_of capture).twice && not s.strange)) scan-then
-        ∙ ap (λ (t : Bool). is_whole seen.phase && (not t && not seen.strange)) codes-then.1
+        ap (λ (s : Scan). is_whole s.phase && (not (head_of capture).twice && not s.strange)) scan_then_lem
+        ∙ ap (λ (t : Bool). is_whole seen.phase && (not t && not seen.strange)) codes_then_lem.1
 
-    pub missing-then : is_missing capture ≡ lacks_code 11 (codes_then start)
+    pub missing_then : is_missing capture ≡ lacks_code 11 (codes_then start)
     unfolding is_missing
-    missing-then = ap (lacks_code 11) codes-then.0
+    missing_then = ap (lacks_code 11) codes_then_lem.0
 
   -- so two of them import alike where the rest comes to the same
   pub rest_alike : (a b : List ℕ) (x y : List Word) → GoOn a b start x y
@@ -201,8 +201,8 @@ module _ (start : List Word) (past-them : over (phase_after start) ≡ true) whe
       → falls_from start (codes_then start) (scan_then start) x ≡ falls_from start (codes_then start) (scan_then start) y → ImportAlike a b
   rest_alike a b x y go seen fell =
       import_alike a b
-      (subset-then a x go.one
+      (subset_then a x go.one
       ∙ ap (λ (s : Scan). form_then start s.phase s.strange) seen
-      ∙ sym (subset-then b y go.other))
-      (missing-then a x go.one ∙ sym (missing-then b y go.other))
+      ∙ sym (subset_then b y go.other))
+      (missing_then a x go.one ∙ sym (missing_then b y go.other))
       (falls_then a x go.one ∙ ap (λ (l : List Fall). falls_in start (codes_then start) blank_scan start ++ l) fell ∙ sym (falls_then b y go.other))

@@ -1,6 +1,6 @@
 -- Laws of the definitions as the code keeps them, by places in the text.
 -- Assumes nothing.
-use Rattle.std.proofs.Common.{◌≡◌, ℕ, zero, suc, ◌+◌, ◌<◌, ◌≤◌, false, List, [], ◌∷◌, length, get_or, set, sym, refl, ap, ◌∙◌, arith, le-ltb, lt-ltb, eq-eqb, ne_eqb}
+use Rattle.std.proofs.Common.{◌≡◌, ℕ, zero, suc, ◌<◌, ◌≤◌, false, List, [], ◌∷◌, length, get_or, set, sym, refl, ap, ◌∙◌, arith, le-ltb, lt-ltb, eq-eqb, ne_eqb}
 use Rattle.captures.specs.declared.form.Phase.{Phase}
 use Rattle.captures.specs.Words.{Word, is_empty, place_in}
 use Rattle.captures.specs.Form.{asked, past}

@@ -1,6 +1,6 @@
 -- Laws of stamps and changes as words.
 -- Assumes nothing.
-use Rattle.std.proofs.Common.{◌≡◌, ℕ, suc, ◌+◌, ◌-◌, ◌*◌, ◌<◌, ◌≤◌, Bool, true, false, cond, ◌&&◌, eqb, leb, List, [], ◌∷◌, length, get_or, drop, sym, refl, ap, ◌∙◌, add-one, arith, drop_of_length-le, drop-cons, eq-eqb, ne_eqb, eqb-true, le-leb, leb-true}
+use Rattle.std.proofs.Common.{◌≡◌, ℕ, suc, ◌+◌, ◌-◌, ◌*◌, ◌<◌, ◌≤◌, Bool, true, false, cond, ◌&&◌, eqb, leb, [], ◌∷◌, length, get_or, drop, sym, refl, add-one, arith, drop_of_length-le, drop-cons, eq-eqb, ne_eqb, eqb-true, le-leb, leb-true}
 use Prim.Native.Char.{code}
 use Rattle.controller.proofs.Laws.Choice.{cond-elim, and_left, and_right}
 use Rattle.lines.specs.Digits.{between}

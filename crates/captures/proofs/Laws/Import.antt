@@ -1,6 +1,6 @@
 -- Laws of the whole: what the tally of a capture's falls says of its session's text, and what each answer leaves.
 -- Assumes nothing.
-use Rattle.std.proofs.Common.{◌≡◌, ℕ, zero, suc, ◌+◌, ◌<◌, ◌≤◌, Bool, true, false, cond, not, ◌&&◌, ◌||◌, ltb, ◌⊎◌, List, [], ◌∷◌, ◌++◌, length, drop, sym, refl, ap, ◌∙◌, inl, inr, ⊎_elim, append_assoc, arith, length-append, ltb-false, le-ltb, lt-ltb}
+use Rattle.std.proofs.Common.{◌≡◌, ℕ, ◌+◌, ◌<◌, ◌≤◌, Bool, true, false, cond, not, ◌&&◌, ◌||◌, ltb, ◌⊎◌, List, [], ◌∷◌, ◌++◌, length, sym, refl, ap, ◌∙◌, inl, inr, ⊎_elim, arith, length-append, ltb-false, le-ltb, lt-ltb}
 use lib.Seq.{sets, length-sets}
 use Rattle.controller.specs.declared.answers.Answer.{Answer}
 use Rattle.controller.specs.declared.answers.Answer.TheVariants.{Done, OutputShort}
@@ -8,7 +8,7 @@ use Rattle.controller.specs.Answers.{number_of, is_done}
 use Rattle.lines.specs.declared.writer.Written.{Written}
 use Rattle.lines.specs.Line.{line, lines_of}
 use Rattle.lines.specs.Text.{Put, put, putting}
-use Rattle.lines.specs.Writing.{Writing, Writes, wanting, refusing, writing, written_of, onto}
+use Rattle.lines.specs.Writing.{Writes, wanting, refusing, writing, written_of, onto}
 use Rattle.lines.proofs.Laws.Buffer.{sets_append, sets_onto, put_whole}
 use Rattle.captures.specs.declared.definitions.Head as places
 use Rattle.captures.specs.declared.falls.Tally.{Tally}
@@ -92,28 +92,28 @@ put_all t (f ∷ fs) fits small =
 
 -- from here on: a capture, its definitions as they were read, and what the first walk saw and counted
 module _ (capture : List ℕ) (head : places.Head) (defs : HeadRead capture head) where
-  codes-are : spans_of capture head.codes ≡ (head_of capture).codes
-  codes-are = defs.codes
+  codes_are : spans_of capture head.codes ≡ (head_of capture).codes
+  codes_are = defs.codes
 
   module _ (out after : List ℕ) (scan : Scan) (tally : Tally) (walked : Walked capture (spans_of capture head.codes) out scan tally after) where
-    pub scan-is : scan ≡ scan_of capture
-    scan-is = walked.seen ∙ ap (λ (cs : List Word). scanned_by (words capture) cs blank_scan (words capture)) codes-are
+    pub scan_is : scan ≡ scan_of capture
+    scan_is = walked.seen ∙ ap (λ (cs : List Word). scanned_by (words capture) cs blank_scan (words capture)) codes_are
 
     pub told_is : told tally after ≡ telling (told no_tally out) (falls_of capture)
-    told_is = walked.heard ∙ ap (λ (cs : List Word). telling (told no_tally out) (falls_from (words capture) cs blank_scan (words capture))) codes-are
+    told_is = walked.heard ∙ ap (λ (cs : List Word). telling (told no_tally out) (falls_from (words capture) cs blank_scan (words capture))) codes_are
 
-    pub unknown-is : tally.unknown ≡ unknown_in (falls_of capture)
-    unknown-is = ap (λ (t : Told). t.tally.unknown) told_is ∙ unknown_told (told no_tally out) (falls_of capture)
+    pub unknown_is : tally.unknown ≡ unknown_in (falls_of capture)
+    unknown_is = ap (λ (t : Told). t.tally.unknown) told_is ∙ unknown_told (told no_tally out) (falls_of capture)
 
     pub inside_is : (inside : Bool) → inside ≡ is_whole scan.phase && (not head.twice && not scan.strange) → inside ≡ in_subset capture
     unfolding in_subset
     inside_is inside is =
-        is ∙ ap (λ (s : Scan). is_whole s.phase && (not head.twice && not s.strange)) scan-is
+        is ∙ ap (λ (s : Scan). is_whole s.phase && (not head.twice && not s.strange)) scan_is
         ∙ ap (λ (b : Bool). is_whole (scan_of capture).phase && (not b && not (scan_of capture).strange)) defs.twice
 
-    pub length-is : Measured tally.length (length (session_text capture))
+    pub length_is : Measured tally.length (length (session_text capture))
     unfolding session_text
-    length-is =
+    length_is =
         let counted : tally.length ≡ (telling (told no_tally out) (falls_of capture)).tally.length = ap (λ (t : Told). t.tally.length) told_is in
         let whole : length (text_from no_tally (falls_of capture)) ≡ length (lines_of (sent_by (falls_of capture))) = ap length (text_session (falls_of capture)) in
         ⊎_elim (λ same. inl (omega (arith, counted, whole, same))) (λ big. inr (omega (arith, counted, big.0), omega (arith, whole, big.1)))
@@ -130,7 +130,7 @@ module _ (capture : List ℕ) (head : places.Head) (defs : HeadRead capture head
 
   pub missing_is : (missing : Bool) → missing ≡ lacks_code 11 (spans_of capture head.codes) → missing ≡ is_missing capture
   unfolding is_missing
-  missing_is missing is = is ∙ ap (lacks_code 11) codes-are
+  missing_is missing is = is ∙ ap (lacks_code 11) codes_are
 
 -- what is judged, from all that was read
 pub judged_is : (capture : List ℕ) (head : places.Head) → HeadRead capture head → (out after : List ℕ) (scan : Scan) (tally : Tally)
@@ -140,7 +140,7 @@ pub judged_is : (capture : List ℕ) (head : places.Head) → HeadRead capture h
 judged_is capture head defs out after scan tally walked inside missing answer i m a =
     a ∙ ap (λ (b : Bool). judged b missing tally.unknown) (inside_is capture head defs out after scan tally walked inside i)
     ∙ ap (λ (b : Bool). judged (in_subset capture) b tally.unknown) (missing_is capture head defs missing m)
-    ∙ ap (judged (in_subset capture) (is_missing capture)) (unknown-is capture head defs out after scan tally walked)
+    ∙ ap (judged (in_subset capture) (is_missing capture)) (unknown_is capture head defs out after scan tally walked)
 
 module _ (capture out : List ℕ) (returned : Written) (answer : Answer) (is : answer ≡ judgement_of capture) where
   pub refused : is_done answer ≡ false → returned ≡ written_of (refusing answer) → Writes (importing capture out) out returned out

@@ -40,11 +40,11 @@ cond_same false x = refl
 -- a change of a plain code sets the lines that have it, and ends no stamp: by cases, since its level is `0` or `1`
 module _ (all : List Word) (letter : ℕ) (plain : between 0x21 0x7E letter ≡ true) (begun : Bool) (stamp before : ℕ)
     (levels : List ℕ) where
-  change-plain : (b : ℕ) → b < 2 → is_plain (digit b ∷ letter ∷ []) ≡ true
+  change_plain : (b : ℕ) → b < 2 → is_plain (digit b ∷ letter ∷ []) ≡ true
   unfolding is_plain digit
-  change-plain zero small = simp plain
-  change-plain (suc zero) small = simp plain
-  change-plain (suc (suc b)) small = absurd (omega arith)
+  change_plain zero small = simp plain
+  change_plain (suc zero) small = simp plain
+  change_plain (suc (suc b)) small = absurd (omega arith)
 
   change_scanned : (b : ℕ) → b < 2
       → scanned all made_codes (at begun stamp before levels) (digit b ∷ letter ∷ [])
@@ -54,13 +54,13 @@ module _ (all : List Word) (letter : ℕ) (plain : between 0x21 0x7E letter ≡ 
   change_scanned (suc zero) small = simp plain
   change_scanned (suc (suc b)) small = absurd (omega arith)
 
-  change-falls : (b : ℕ) (ws : List Word) → b < 2
+  change_falls : (b : ℕ) (ws : List Word) → b < 2
       → falls_from all made_codes (at begun stamp before levels) ((digit b ∷ letter ∷ []) ∷ ws)
       ≡ falls_from all made_codes (scanned all made_codes (at begun stamp before levels) (digit b ∷ letter ∷ [])) ws
   unfolding digit stamp_of falls_from fall_at
-  change-falls zero ws small = refl
-  change-falls (suc zero) ws small = refl
-  change-falls (suc (suc b)) ws small = absurd (omega arith)
+  change_falls zero ws small = refl
+  change_falls (suc zero) ws small = refl
+  change_falls (suc (suc b)) ws small = absurd (omega arith)
 
   -- so, where the code is declared, nothing strange is met
   turn : (value : ℕ) (more : List ℕ) → declares (Section false) all (letter ∷ []) ≡ true
@@ -71,7 +71,7 @@ module _ (all : List Word) (letter : ℕ) (plain : between 0x21 0x7E letter ≡ 
       let b = value % 2 in
       let small : value % 2 < 2 = omega arith in
       let from = at begun stamp before levels in
-      let split = words_line (digit b ∷ letter ∷ []) more (change-plain b small) in
+      let split = words_line (digit b ∷ letter ∷ []) more (change_plain b small) in
       let next = at begun stamp before (changed 11 made_codes (letter ∷ []) b levels) in
       let step : scanned all made_codes from (digit b ∷ letter ∷ []) ≡ next =
       change_scanned b small ∙ simp declared in
@@ -81,17 +81,17 @@ module _ (all : List Word) (letter : ℕ) (plain : between 0x21 0x7E letter ≡ 
             ∙ ap (λ (s : Scan). scanned_by all made_codes s (words more)) step;
         fell =
             ap (falls_from all made_codes from) split
-            ∙ change-falls b (words more) small
+            ∙ change_falls b (words more) small
             ∙ ap (λ (s : Scan). falls_from all made_codes s (words more)) step;
       }
 
 -- the changes of RS, RW and DB0 to DB7 set those ten lines
 module _ (all : List Word) (declared : DeclaresAll all) (begun : Bool) (stamp before : ℕ) where
-  lines-turn : (a b c d e f g h i j k : ℕ) (t : Sent) (more : List ℕ)
+  lines_turn : (a b c d e f g h i j k : ℕ) (t : Sent) (more : List ℕ)
       → Leads all (at begun stamp before (a ∷ b ∷ c ∷ d ∷ e ∷ f ∷ g ∷ h ∷ i ∷ j ∷ k ∷ [])) (made_lines t ++ more) []
       (at begun stamp before (made_levels t.kind t.byte c)) more
   unfolding made_lines made_change changed same made_levels
-  lines-turn a b c d e f g h i j k t more =
+  lines_turn a b c d e f g h i j k t more =
       on (turn all (code "a") refl begun stamp before _ t.kind _ (declared 0 (omega arith)))
       (on (turn all (code "b") refl begun stamp before _ (t.kind / 2) _ (declared 1 (omega arith)))
       (on (turn all (code "d") refl begun stamp before _ t.byte _ (declared 3 (omega arith)))
@@ -113,21 +113,21 @@ e_turn all declared begun stamp before kind byte e value more =
 
 -- a stamp within 32 bits: the word is plain and says its number, so it is taken as that stamp
 module _ (all : List Word) (begun : Bool) (stamp before : ℕ) (levels : List ℕ) (n : ℕ) (fits : n ≤ stamp_limit) where
-  hash-past : past Changes (code "#" ∷ decimal n) ≡ Changes
+  hash_past : past Changes (code "#" ∷ decimal n) ≡ Changes
   unfolding past after changing is_plain same
-  hash-past = simp (eqb-suc-zero (length (decimal n)), plain_decimal n, stamp_decimal n fits, le-leb n stamp_limit fits, cond_same)
+  hash_past = simp (eqb-suc-zero (length (decimal n)), plain_decimal n, stamp_decimal n fits, le-leb n stamp_limit fits, cond_same)
 
-  hash-scanned : scanned all made_codes (at begun stamp before levels) (code "#" ∷ decimal n)
+  hash_scanned : scanned all made_codes (at begun stamp before levels) (code "#" ∷ decimal n)
       ≡ stamped (at begun stamp before levels) n
   unfolding scanned moved
-  hash-scanned = simp (hash-past, stamp_decimal n fits, le-leb n stamp_limit fits)
+  hash_scanned = simp (hash_past, stamp_decimal n fits, le-leb n stamp_limit fits)
 
-  hash-falls : (ws : List Word)
+  hash_falls : (ws : List Word)
       → falls_from all made_codes (at begun stamp before levels) ((code "#" ∷ decimal n) ∷ ws)
       ≡ fall_at (ends_stamp (at begun stamp before levels) n && falls (at begun stamp before levels)) (at begun stamp before levels)
       ++ falls_from all made_codes (stamped (at begun stamp before levels) n) ws
   unfolding falls_from
-  hash-falls ws = simp (hash-scanned, stamp_decimal n fits, le-leb n stamp_limit fits)
+  hash_falls ws = simp (hash_scanned, stamp_decimal n fits, le-leb n stamp_limit fits)
 
 -- the fall that counts when this stamp comes: it ends the one before it, and E has fallen there
 abbrev fallen_by : Scan → ℕ → List Fall
@@ -149,8 +149,8 @@ stamp_leads all begun stamp before levels value more =
     record {
       seen =
           ap (scanned_by all made_codes from) split
-          ∙ ap (λ (s : Scan). scanned_by all made_codes s (words more)) (hash-scanned all begun stamp before levels n fits);
-      fell = ap (falls_from all made_codes from) split ∙ hash-falls all begun stamp before levels n fits (words more);
+          ∙ ap (λ (s : Scan). scanned_by all made_codes s (words more)) (hash_scanned all begun stamp before levels n fits);
+      fell = ap (falls_from all made_codes from) split ∙ hash_falls all begun stamp before levels n fits (words more);
     }
 
 -- a stamp that ends the one before it, where E had not been at 1 before that one: nothing has fallen
@@ -172,7 +172,7 @@ pulse_rest : (all : List Word) (declared : DeclaresAll all) (before : ℕ) (low 
 unfolding made_levels
 pulse_rest all declared before low a b c d e f g h i j k stamp t more =
     let rise = (stamp + 4294967295) % 4294967296 in
-    on (lines-turn all declared true rise before a b c d e f g h i j k t _)
+    on (lines_turn all declared true rise before a b c d e f g h i j k t _)
     (on (e_turn all declared true rise before t.kind t.byte c 1 _)
     (on (quiet_stamp all rise before (made_levels t.kind t.byte 1) stamp _ (rise_other stamp) low)
     (e_turn all declared true (stamp % 4294967296) 1 t.kind t.byte 1 0 more)))

@@ -1,7 +1,6 @@
 -- Laws of the table of short codes: each has a place of its own, a code noted, a line more, and what a change then does.
 -- Assumes nothing.
 use Rattle.std.proofs.Common.{◌≡◌, ℕ, zero, suc, ◌+◌, ◌-◌, ◌*◌, ◌<◌, ◌≤◌, Bool, true, false, cond, eqb, ltb, ◌⊎◌, List, [], ◌∷◌, length, get_or, set, replicate, sym, refl, ap, ◌∙◌, inl, inr, ⊎_elim, arith, length-set, get_or-set_other, get_or-set_same, ltb-false, ltb-true, eq-eqb, ne_eqb, eqb-true, leb-true}
-use Prim.Native.Char.{code}
 use lib.ListN.{length-replicate, get_or-replicate, get_or-eq_default}
 use lib.Seq.{set_out, set-get_or}
 use borrow.Author.Tests.{eqb-false}

@@ -1,16 +1,15 @@
 -- Laws of waits and lines: the wait of two stamps, and a line put into a buffer.
 -- Assumes nothing.
-use Rattle.std.proofs.Common.{◌≡◌, ℕ, zero, suc, ◌+◌, ◌-◌, ◌%◌, ◌<◌, ◌≤◌, Bool, true, false, cond, ◌&&◌, ◌||◌, eqb, ltb, List, [], ◌∷◌, ◌++◌, length, take, drop, sym, refl, ap, ◌∙◌, append_assoc, arith, length-append, take_at, le-ltb, lt-ltb, eq-eqb, ne_eqb}
-use lib.Seq.{take-append_seam}
+use Rattle.std.proofs.Common.{◌≡◌, ℕ, ◌+◌, ◌%◌, ◌<◌, ◌≤◌, Bool, true, false, ◌&&◌, ◌||◌, eqb, List, length, take, drop, sym, refl, ap, ◌∙◌, arith, take_at, le-ltb, eq-eqb, ne_eqb}
 use Rattle.controller.specs.Bus.{bad_transfer}
 use Rattle.lines.specs.declared.writer.Written.{Written}
-use Rattle.lines.specs.Line.{line, wait_limit}
+use Rattle.lines.specs.Line.{line}
 use Rattle.lines.specs.Writing.{Writing, Writes, onto, writing, wanting, line_writing}
 use Rattle.lines.proofs.Laws.Lengths.{line_fits}
-use Rattle.lines.specs.Text.{Put, put, putting}
+use Rattle.lines.specs.Text.{put, putting}
 use Rattle.captures.specs.declared.falls.Tally.{Tally}
 use Rattle.captures.specs.declared.scan.Scan.{Scan}
-use Rattle.captures.specs.Falls.{Fall, level_at, falls, fall_at}
+use Rattle.captures.specs.Falls.{level_at, falls, fall_at}
 use Rattle.captures.specs.Import.{bit, kind_of, byte_of, wait_from, unknown_at}
 use Rattle.captures.specs.Walk.{since, line_at, longer, counted, Told, told, telling_one, telling, fall_with}
 

@@ -43,7 +43,7 @@ level_plain byte =
 record Changing (w : Word) : Type 0 where
   some : is_empty w ≡ false
   plain : is_plain w ≡ true
-  no-dump : is "$dumpvars" w ≡ false
+  no_dump : is "$dumpvars" w ≡ false
   no_end : is "$end" w ≡ false
 
 change_word : (w : Word) → level_set w < 3 → is_plain (drop 1 w) ≡ true → Changing w
@@ -56,7 +56,7 @@ change_word (a ∷ b ∷ w) sets plain =
     record {
       some = ne_eqb (suc (suc (length w))) 0 (λ none. omega arith);
       plain = simp (le-leb 0x21 a (omega arith), le-leb a 0x7E (omega arith), plain);
-      no-dump = simp other;
+      no_dump = simp other;
       no_end = simp other;
     }
 
@@ -66,7 +66,7 @@ unfolding past after changing
 past_change phase w late sets plain =
     let word = change_word w sets plain in
     late_phase (λ (p : Phase). past p w ≡ p) phase late
-    (simp (word.some, word.plain, word.no-dump, lt-ltb (level_set w) 3 sets)) (simp (word.some, word.plain, word.no_end, lt-ltb (level_set w) 3 sets))
+    (simp (word.some, word.plain, word.no_dump, lt-ltb (level_set w) 3 sets)) (simp (word.some, word.plain, word.no_end, lt-ltb (level_set w) 3 sets))
 
 -- a change is no stamp
 no_stamp_lem : (w : Word) → level_set w < 3 → stamp_of w ≡ no_stamp
@@ -144,13 +144,13 @@ module _ (table : List ℕ) (all codes : List Word) (t : Tabled table all codes 
       let same : with_levels scan scan.levels ≡ altered all codes scan (drop 1 w) (level_set w) = cc in
       same ∙ alters
 
-  ends-none : false ≡ ends scan w
-  ends-none = sym (simp (le-leb 3 (asked scan.phase) known_as.late, no_stamp_lem w known_as.sets))
+  ends_none : false ≡ ends scan w
+  ends_none = sym (simp (le-leb 3 (asked scan.phase) known_as.late, no_stamp_lem w known_as.sets))
 
   -- so a walk over it tells nothing
   pub set_step : (next : Scan) (t : Told) (left : List Word) (u : Word) (ws : List Word) → left ≡ u ∷ ws → w ≡ u → next ≡ scanned all codes scan w
       → (scanned_by all codes next ws ≡ scanned_by all codes scan left) × (telling t (falls_from all codes next ws) ≡ telling t (falls_from all codes scan left))
   set_step next t left u ws stands is goes = (
     scanned_step all codes scan next left w u ws stands is goes,
-    told_step all codes scan next t t false left w u ws stands is goes ends-none (end_none t scan false refl),
+    told_step all codes scan next t t false left w u ws stands is goes ends_none (end_none t scan false refl),
   )

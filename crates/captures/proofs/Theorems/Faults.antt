@@ -5,9 +5,7 @@ use mathlib.Core.Bool.{false≢true}
 use Rattle.controller.proofs.Laws.Choice.{cond-elim}
 use Rattle.lines.proofs.Laws.Digits.{either}
 use Rattle.captures.specs.declared.faults.Unknown.{Unknown}
-use Rattle.captures.specs.declared.faults.Wrong.{Wrong}
 use Rattle.captures.specs.declared.form.Phase.{Phase}
-use Rattle.captures.specs.declared.form.Phase.TheVariants as Phase
 use Rattle.captures.specs.declared.scan.Scan.{Scan}
 use Rattle.captures.specs.Words.{Word, words, is_empty, place_in}
 use Rattle.captures.specs.Form.{changes_come, code_comes, name_comes, is_change, is_stamp, is_whole, past}
@@ -134,12 +132,12 @@ finished_is false false true e = inr (inr refl)
 finished_is false false false e = absurd (true≢false e)
 
 module _ (all codes : List Word) where
-  step-phase : (head : Head) (scan : Scan) (w : Word) → scan.phase ≡ head.phase → (scanned all codes scan w).phase ≡ (defined head w).phase
-  step-phase head scan w is = scanned_phase all codes scan w ∙ ap (λ (p : Phase). past p w) is ∙ sym (defined_phase head w)
+  step_phase : (head : Head) (scan : Scan) (w : Word) → scan.phase ≡ head.phase → (scanned all codes scan w).phase ≡ (defined head w).phase
+  step_phase head scan w is = scanned_phase all codes scan w ∙ ap (λ (p : Phase). past p w) is ∙ sym (defined_phase head w)
 
-  step-strange : (head : Head) (scan : Scan) (w : Word) → scan.phase ≡ head.phase → scan.strange ≡ false
+  step_strange : (head : Head) (scan : Scan) (w : Word) → scan.phase ≡ head.phase → scan.strange ≡ false
       → (scanned all codes scan w).strange ≡ is_undeclared all head.phase w
-  step-strange head scan w is none =
+  step_strange head scan w is none =
       scanned_stranger all codes scan w ∙ ap (λ (b : Bool). stranger all scan.phase b w) none
       ∙ stranger_first all scan.phase w ∙ ap (λ (p : Phase). is_undeclared all p w) is
 
@@ -152,12 +150,12 @@ module _ (all codes : List Word) where
   clean head scan place (w ∷ ws) is none once e =
       either (is_unfinished (fault_with all head w))
       (λ fine. let parts = unfinished_is (is_wrong (defined head w).phase) (defined head w).twice (is_undeclared all head.phase w) fine in
-      clean (defined head w) (scanned all codes scan w) (place + length w + 1) ws (step-phase head scan w is)
-      (step-strange head scan w is none ∙ parts.2) parts.1 (sym (simp fine) ∙ e))
-      (λ bad. absurd (true≢false (sym e ∙ at-word bad)))
+      clean (defined head w) (scanned all codes scan w) (place + length w + 1) ws (step_phase head scan w is)
+      (step_strange head scan w is none ∙ parts.2) parts.1 (sym (simp fine) ∙ e))
+      (λ bad. absurd (true≢false (sym e ∙ at_word bad)))
     where
-      at-word : is_unfinished (fault_with all head w) ≡ false → is_unfinished (wrong_from all head place (w ∷ ws)).fault ≡ false
-      at-word bad = simp bad
+      at_word : is_unfinished (fault_with all head w) ≡ false → is_unfinished (wrong_from all head place (w ∷ ws)).fault ≡ false
+      at_word bad = simp bad
 
   -- a word is, so that the text cannot be in the subset
   dirty : (head : Head) (scan : Scan) (place : ℕ) (ws : List Word) → scan.phase ≡ head.phase → scan.strange ≡ false
@@ -168,28 +166,28 @@ module _ (all codes : List Word) where
   dirty head scan place (w ∷ ws) is none e =
       either (is_unfinished (fault_with all head w))
       (λ fine. let parts = unfinished_is (is_wrong (defined head w).phase) (defined head w).twice (is_undeclared all head.phase w) fine in
-      dirty (defined head w) (scanned all codes scan w) (place + length w + 1) ws (step-phase head scan w is)
-      (step-strange head scan w is none ∙ parts.2) (sym (simp fine) ∙ e))
+      dirty (defined head w) (scanned all codes scan w) (place + length w + 1) ws (step_phase head scan w is)
+      (step_strange head scan w is none ∙ parts.2) (sym (simp fine) ∙ e))
       (λ bad. ⊎_elim
-      (λ wrong. first-no _ _ (ap is_whole (scanned_reached all codes (scanned all codes scan w) ws
-      ∙ ap (λ (p : Phase). reached p ws) (step-phase head scan w is ∙ wrong_is (defined head w).phase wrong) ∙ stays_wrong ws)))
+      (λ wrong. first_no _ _ (ap is_whole (scanned_reached all codes (scanned all codes scan w) ws
+      ∙ ap (λ (p : Phase). reached p ws) (step_phase head scan w is ∙ wrong_is (defined head w).phase wrong) ∙ stays_wrong ws)))
       (⊎_elim
-      (λ twice. second-no (is_whole (scanned_by all codes (scanned all codes scan w) ws).phase) (defined_by (defined head w) ws).twice (scanned_by all codes (scanned all codes scan w) ws).strange (stays_twice (defined head w) ws twice))
-      (λ strange. third-no (is_whole (scanned_by all codes (scanned all codes scan w) ws).phase) (defined_by (defined head w) ws).twice (scanned_by all codes (scanned all codes scan w) ws).strange
-      (stays_strange all codes (scanned all codes scan w) ws (step-strange head scan w is none ∙ strange))))
+      (λ twice. second_no (is_whole (scanned_by all codes (scanned all codes scan w) ws).phase) (defined_by (defined head w) ws).twice (scanned_by all codes (scanned all codes scan w) ws).strange (stays_twice (defined head w) ws twice))
+      (λ strange. third_no (is_whole (scanned_by all codes (scanned all codes scan w) ws).phase) (defined_by (defined head w) ws).twice (scanned_by all codes (scanned all codes scan w) ws).strange
+      (stays_strange all codes (scanned all codes scan w) ws (step_strange head scan w is none ∙ strange))))
       (finished_is (is_wrong (defined head w).phase) (defined head w).twice (is_undeclared all head.phase w) bad))
     where
-      first-no : (a b : Bool) → a ≡ false → (a && b) ≡ false
-      first-no a b e = ap (λ (t : Bool). t && b) e
+      first_no : (a b : Bool) → a ≡ false → (a && b) ≡ false
+      first_no a b e = ap (λ (t : Bool). t && b) e
 
-      second-no : (a b c : Bool) → b ≡ true → (a && (not b && not c)) ≡ false
-      second-no true b c e = ap (λ (t : Bool). not t && not c) e
-      second-no false b c e = refl
+      second_no : (a b c : Bool) → b ≡ true → (a && (not b && not c)) ≡ false
+      second_no true b c e = ap (λ (t : Bool). not t && not c) e
+      second_no false b c e = refl
 
-      third-no : (a b c : Bool) → c ≡ true → (a && (not b && not c)) ≡ false
-      third-no true true c e = refl
-      third-no true false c e = ap not e
-      third-no false b c e = refl
+      third_no : (a b c : Bool) → c ≡ true → (a && (not b && not c)) ≡ false
+      third_no true true c e = refl
+      third_no true false c e = ap not e
+      third_no false b c e = refl
 
 pub faults_found : FaultsFound
 unfolding in_subset

@@ -1,6 +1,6 @@
 -- How long a session's text can be: what E still needs for its next fall, counted in bytes of the capture.
 -- Assumes nothing.
-use Rattle.std.proofs.Common.{◌≡◌, ℕ, ◌+◌, ◌-◌, ◌*◌, ◌≤◌, Bool, true, false, cond, ◌&&◌, eqb, List, [], ◌∷◌, ◌++◌, length, drop, refl, ap, ◌∙◌, arith, length-append, eqb-true}
+use Rattle.std.proofs.Common.{◌≡◌, ℕ, ◌+◌, ◌*◌, ◌≤◌, Bool, true, false, cond, ◌&&◌, eqb, List, [], ◌∷◌, ◌++◌, length, drop, refl, ap, ◌∙◌, arith, length-append, eqb-true}
 use mathlib.Core.Bool.{false≢true}
 use Rattle.controller.proofs.Laws.Choice.{and_left, and_right}
 use Rattle.lines.specs.Line.{line, lines_of}

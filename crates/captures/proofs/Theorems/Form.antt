@@ -12,7 +12,7 @@ use Rattle.captures.specs.Form.{after, changes_come, past}
 use Rattle.captures.specs.Falls.{blank_scan, scanned, scanned_by}
 use Rattle.captures.specs.Unheeded.{phase_after, OneForm, AllOneForm, FormAlone}
 use Rattle.captures.proofs.Laws.Over.{over, over_past}
-use Rattle.captures.proofs.Laws.Behind.{changes_over, codes_then, form_then, missing-then, scan_then, scanned_phase, scanned_reached, scanned_stranger, stranger, subset-then}
+use Rattle.captures.proofs.Laws.Behind.{changes_over, codes_then, form_then, missing_then, scan_then, scanned_phase, scanned_reached, scanned_stranger, stranger, subset_then}
 use Rattle.captures.proofs.Laws.Changes.{change_no_stamp, change_past}
 use Rattle.captures.proofs.Theorems.Answers.{outside_first}
 
@@ -84,10 +84,10 @@ form_alone =
           let reaches = ap over (scanned_reached start (codes_then start) blank_scan start) ∙ is in
           let same-form = forms_alike start (codes_then start) scan scan x y forms refl reaches refl in
           let seen = scanned_by start (codes_then start) scan in (
-            subset-then start is a x go.one
+            subset_then start is a x go.one
                 ∙ ap (λ (p : Phase). form_then start p (seen x).strange) same-form.0
                 ∙ ap (form_then start (seen y).phase) same-form.1
-                ∙ sym (subset-then start is b y go.other),
-            missing-then start is a x go.one ∙ sym (missing-then start is b y go.other),
+                ∙ sym (subset_then start is b y go.other),
+            missing_then start is a x go.one ∙ sym (missing_then start is b y go.other),
           );
     }

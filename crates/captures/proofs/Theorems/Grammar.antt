@@ -57,14 +57,14 @@ module _ (w : Word) (ws : List Word) where
       (closed scaled ws (λ l. Sections scaled (bytes_of "$upscope" ∷ l)) (λ rest made. Grammar.upscope scaled rest made) left))
       (λ _. cond-elim (λ (p : Phase). Rest p ws → Sections scaled (w ∷ ws)) (is "$timescale" w) _ _
       (λ e. cond-elim (λ (p : Phase). Rest p ws → Sections scaled (w ∷ ws)) scaled _ _ (λ _ wrong. absurd wrong)
-      (λ first left. at-scale first (this (bytes_of "$timescale") w ws (Sections false) e left)))
+      (λ first left. at_scale first (this (bytes_of "$timescale") w ws (Sections false) e left)))
       (λ _. cond-elim (λ (p : Phase). Rest p ws → Sections scaled (w ∷ ws)) (is "$enddefinitions" w) _ _
       (λ e. cond-elim (λ (p : Phase). Rest p ws → Sections scaled (w ∷ ws)) scaled _ _
-      (λ been left. at-scale been (this (bytes_of "$enddefinitions") w ws (Sections true) e left)) (λ _ wrong. absurd wrong))
+      (λ been left. at_scale been (this (bytes_of "$enddefinitions") w ws (Sections true) e left)) (λ _ wrong. absurd wrong))
       (λ _ wrong. absurd wrong)))))
     where
-      at-scale : {b : Bool} → scaled ≡ b → Sections b (w ∷ ws) → Sections scaled (w ∷ ws)
-      at-scale {b} is = subst (λ (t : Bool). Sections t (w ∷ ws)) (sym is)
+      at_scale : {b : Bool} → scaled ≡ b → Sections b (w ∷ ws) → Sections scaled (w ∷ ws)
+      at_scale {b} is = subst (λ (t : Bool). Sections t (w ∷ ws)) (sym is)
 
   -- stamps and changes
   later : (inside stamps : Bool) (next : Phase) → (Rest next ws → Later inside ws) → (stamps ≡ true → is_stamp w ≡ true → Rest next ws → Later inside (w ∷ ws))

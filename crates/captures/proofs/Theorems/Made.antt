@@ -41,23 +41,23 @@ Ends scan = (scan.phase ≡ Changes) × (scan.strange ≡ false)
 
 -- the later pulses, read to the end; the text's end is the end of the last fall's stamp
 module _ (all : List Word) (declared : DeclaresAll all) where
-  falls-made : (stamp : ℕ) (t : Sent) (later : List Sent) → LaterWaits later → AllSayable later
+  falls_made : (stamp : ℕ) (t : Sent) (later : List Sent) → LaterWaits later → AllSayable later
       → falls_from all made_codes (behind stamp t) (words (made_pulses stamp later)) ≡ made_falls stamp t later
   unfolding made_pulses made_falls LaterWaits AllSayable words falls_from fall_at made_levels
-  falls-made stamp t [] waits can = refl
-  falls-made stamp t (u ∷ later) waits can =
+  falls_made stamp t [] waits can = refl
+  falls_made stamp t (u ∷ later) waits can =
       let next = stamp + u.wait in
       (later_pulse all declared stamp t.kind t.byte u (made_pulses next later) waits.0 can.0.is_wait).fell
-      ∙ ap (λ (l : List Fall). made_fall stamp t ∷ l) (falls-made next u later waits.1 can.1)
+      ∙ ap (λ (l : List Fall). made_fall stamp t ∷ l) (falls_made next u later waits.1 can.1)
 
-  ends-made : (stamp : ℕ) (t : Sent) (later : List Sent) → LaterWaits later → AllSayable later
+  ends_made : (stamp : ℕ) (t : Sent) (later : List Sent) → LaterWaits later → AllSayable later
       → Ends (scanned_by all made_codes (behind stamp t) (words (made_pulses stamp later)))
   unfolding made_pulses LaterWaits AllSayable words scanned_by
-  ends-made stamp t [] waits can = (refl, refl)
-  ends-made stamp t (u ∷ later) waits can =
+  ends_made stamp t [] waits can = (refl, refl)
+  ends_made stamp t (u ∷ later) waits can =
       let next = stamp + u.wait in
       rw (later_pulse all declared stamp t.kind t.byte u (made_pulses next later) waits.0 can.0.is_wait).seen
-      (ends-made next u later waits.1 can.1)
+      (ends_made next u later waits.1 can.1)
 
 -- the transfer at a fall is the one that it was made from
 sent_at_lem : (before : ℕ) (t : Sent) → Sayable t.kind t.byte t.wait
@@ -139,8 +139,8 @@ made_imports first (t ∷ later) out can room =
     let stamp = first + t.wait in
     let pulse = first_pulse all declared stamp t (made_pulses stamp later) in
     made_as rest out (t ∷ later) (made_falls stamp t later)
-    (rw pulse.seen (ends-made all declared stamp t later can.1 can.2.1))
-    (pulse.fell ∙ falls-made all declared stamp t later can.1 can.2.1)
+    (rw pulse.seen (ends_made all declared stamp t later can.1 can.2.1))
+    (pulse.fell ∙ falls_made all declared stamp t later can.1 can.2.1)
     (known_falls stamp t later)
     (sent_all first t later can.0 can.2)
     room

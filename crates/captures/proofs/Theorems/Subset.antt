@@ -25,7 +25,7 @@ use Rattle.captures.proofs.Laws.Falls.{declares_never}
 use Rattle.captures.proofs.Laws.Over.{over}
 use Rattle.captures.proofs.Laws.Session.{defined_over}
 use Rattle.captures.proofs.Theorems.Grammar.{AllFilled, form_is_grammar, past_is, said_filled}
-use Rattle.captures.proofs.Theorems.Unheeded.{head_said, scan_said, codesSaid}
+use Rattle.captures.proofs.Theorems.Unheeded.{head_said, scan_said, codes_said}
 
 abbrev headed : Phase → Word → List Word → Bool → Head
 headed phase code codes twice = record { phase = phase; code = code; codes = codes; twice = twice }
@@ -128,11 +128,11 @@ sections_declare (Grammar.var scaled type own name ws e other nor rest) some pla
     (ap (λ (p : Phase). declares p (name ∷ bytes_of "$end" ∷ ws) code) to-name
     ∙ ap (λ (p : Phase). declares p (bytes_of "$end" ∷ ws) code) to-close
     ∙ sections_declare rest some.1.1.1.1.1.1 plain.1.1.1.1.1.1 code)
-    ∙ first-or (same own code) (times code (codes_of rest))
+    ∙ first_or (same own code) (times code (codes_of rest))
   where
-    first-or : (b : Bool) (n : ℕ) → (b || ltb 0 n) ≡ ltb 0 (cond b 1 0 + n)
-    first-or true n = sym (lt-ltb 0 (1 + n) (omega arith))
-    first-or false n = ap (ltb 0) (let same_number : n ≡ 0 + n = omega arith in same_number)
+    first_or : (b : Bool) (n : ℕ) → (b || ltb 0 n) ≡ ltb 0 (cond b 1 0 + n)
+    first_or true n = sym (lt-ltb 0 (1 + n) (omega arith))
+    first_or false n = ap (ltb 0) (let same_number : n ≡ 0 + n = omega arith in same_number)
 sections_declare (Grammar.over ws rest) some plain code = declares_never Changes ws code refl
 
 -- whether a code was changed that is not declared, by the phases alone
@@ -220,12 +220,12 @@ module _ (ws : List Word) (form : Sections false ws) (some : AllFilled ws) (plai
     among codes (and_right (declares (Section false) ws code) _ e),
   )
 
-  among-all : (codes : List Word) → AllAmong codes (codes_of form) → all_declared ws codes ≡ true
+  among_all : (codes : List Word) → AllAmong codes (codes_of form) → all_declared ws codes ≡ true
   unfolding all_declared AllAmong
-  among-all [] all = refl
-  among-all (code ∷ codes) all =
+  among_all [] all = refl
+  among_all (code ∷ codes) all =
       ap (λ (b : Bool). b && all_declared ws codes) (sections_declare form some plain code ∙ lt-ltb 0 (times code (codes_of form)) all.0)
-      ∙ among-all codes all.1
+      ∙ among_all codes all.1
 
 -- before the first word no signal has been
 none_yet : Counted (replicate 11 []) false (λ _. 0)
@@ -252,10 +252,10 @@ module _ (capture : List ℕ) where
       subst (λ (h : Head). Counted h.codes h.twice (λ line. 0 + times (needed line) (names_of form))) (sym (head_said capture))
       (sections_counted form (said_filled (words capture)) plain [] (replicate 11 []) false (λ _. 0) none_yet)
 
-  strange-is : (form : Sections false ws) → AllPlain ws → (scan_of capture).strange ≡ not (all_declared ws (changed_of form))
-  strange-is form plain =
+  strange_is : (form : Sections false ws) → AllPlain ws → (scan_of capture).strange ≡ not (all_declared ws (changed_of form))
+  strange_is form plain =
       ap (λ (s : Scan). s.strange) (scan_said capture)
-      ∙ scanned_strange ws (codesSaid capture) blank_scan ws
+      ∙ scanned_strange ws (codes_said capture) blank_scan ws
       ∙ sections_strange form (said_filled (words capture)) plain ws false
 
   pub inside : in_subset capture ≡ true → InSubset capture
@@ -271,7 +271,7 @@ module _ (capture : List ℕ) where
         form = stands.1;
         once = λ line less. let one = (counts stands.1 stands.0).less once line less in omega arith;
         declared = among ws stands.1 (said_filled (words capture)) stands.0 (changed_of stands.1)
-            (not-false _ (sym (strange-is stands.1 stands.0) ∙ known));
+            (not-false _ (sym (strange_is stands.1 stands.0) ∙ known));
       }
 
   pub is_inside : InSubset capture → in_subset capture ≡ true
@@ -283,8 +283,8 @@ module _ (capture : List ℕ) where
       (λ e. let two = (counts stands.form stands.plain).more e in let one = stands.once two.0 two.1 in absurd (omega (arith, two.2)))
       (λ e. e) in
       let known : (scan_of capture).strange ≡ false =
-      strange-is stands.form stands.plain
-      ∙ ap not (among-all ws stands.form (said_filled (words capture)) stands.plain (changed_of stands.form) stands.declared) in
+      strange_is stands.form stands.plain
+      ∙ ap not (among_all ws stands.form (said_filled (words capture)) stands.plain (changed_of stands.form) stands.declared) in
       simp (whole, once, known)
 
 -- a line without a code

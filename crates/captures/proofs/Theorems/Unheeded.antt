@@ -6,7 +6,7 @@ use Rattle.captures.specs.declared.form.Phase.TheVariants.{Section}
 use Rattle.captures.specs.declared.scan.Scan.{Scan}
 use Rattle.captures.specs.Words.{Word, words, same, is_plain}
 use Rattle.captures.specs.Form.{code_comes, is_whole, past, changes_come, is_stamp, stamp_of, stamp_limit, is_change, level_set}
-use Rattle.captures.specs.Definitions.{Head, blank_head, defined_by, declares, lacks_code}
+use Rattle.captures.specs.Definitions.{Head, blank_head, defined, defined_by, declares, lacks_code}
 use Rattle.captures.specs.Falls.{Fall, blank_scan, ends, falls, fall_at, scanned, scanned_by, falls_from, altered, stamped, ends_stamp}
 use Rattle.captures.specs.Import.{head_of, scan_of, falls_of, in_subset, is_missing}
 use Rattle.captures.specs.Unheeded.{said, BlanksUnheeded, NoStamps, OthersUnheeded, StampAfter, FirstStampUnheeded, RepeatedStampUnheeded, phase_after}
@@ -20,7 +20,7 @@ defined_said : (head : Head) (ws : List Word) → defined_by head ws ≡ defined
 unfolding defined_by said
 defined_said head [] = refl
 defined_said head ([] ∷ ws) = empty_defines head ws ∙ defined_said head ws
-defined_said head ((byte ∷ w) ∷ ws) = defined_said _ ws
+defined_said head ((byte ∷ w) ∷ ws) = defined_said (defined head (byte ∷ w)) ws
 
 declares_said : (phase : Phase) (ws : List Word) (byte : ℕ) (code : Word) → declares phase ws (byte ∷ code) ≡ declares phase (said ws) (byte ∷ code)
 unfolding declares said same past
@@ -47,63 +47,63 @@ falls_said all codes scan ((byte ∷ w) ∷ ws) =
     ap (λ (l : List Fall). fall_at (ends scan (byte ∷ w) && falls scan) scan ++ l) (falls_said all codes (scanned all codes scan (byte ∷ w)) ws)
 
 module _ (capture : List ℕ) where
-  abbrev pub saidIn : List Word
-  saidIn = said (words capture)
+  abbrev pub said_in : List Word
+  said_in = said (words capture)
 
-  pub head_said : head_of capture ≡ defined_by blank_head saidIn
+  pub head_said : head_of capture ≡ defined_by blank_head said_in
   head_said = defined_said blank_head (words capture)
 
-  abbrev pub codesSaid : List Word
-  codesSaid = (defined_by blank_head saidIn).codes
+  abbrev pub codes_said : List Word
+  codes_said = (defined_by blank_head said_in).codes
 
-  declared-said : SameDeclared (words capture) saidIn
-  declared-said byte code = declares_said (Section false) (words capture) byte code
+  declared_said : SameDeclared (words capture) said_in
+  declared_said byte code = declares_said (Section false) (words capture) byte code
 
-  pub scan_said : scan_of capture ≡ scanned_by saidIn codesSaid blank_scan saidIn
+  pub scan_said : scan_of capture ≡ scanned_by said_in codes_said blank_scan said_in
   scan_said =
       ap (λ (h : Head). scanned_by (words capture) h.codes blank_scan (words capture)) head_said
-      ∙ scanned_by_all (words capture) saidIn codesSaid declared-said blank_scan (words capture)
-      ∙ scanned_said saidIn codesSaid blank_scan (words capture)
+      ∙ scanned_by_all (words capture) said_in codes_said declared_said blank_scan (words capture)
+      ∙ scanned_said said_in codes_said blank_scan (words capture)
 
-  fell-said : falls_of capture ≡ falls_from saidIn codesSaid blank_scan saidIn
-  fell-said =
+  fell_said : falls_of capture ≡ falls_from said_in codes_said blank_scan said_in
+  fell_said =
       ap (λ (h : Head). falls_from (words capture) h.codes blank_scan (words capture)) head_said
-      ∙ falls_all (words capture) saidIn codesSaid declared-said blank_scan (words capture)
-      ∙ falls_said saidIn codesSaid blank_scan (words capture)
+      ∙ falls_all (words capture) said_in codes_said declared_said blank_scan (words capture)
+      ∙ falls_said said_in codes_said blank_scan (words capture)
 
   abbrev form_of : List Word → Bool
   form_of ws =
       let seen = scanned_by ws (defined_by blank_head ws).codes blank_scan ws in
       is_whole seen.phase && (not (defined_by blank_head ws).twice && not seen.strange)
 
-  subset-said : in_subset capture ≡ form_of saidIn
+  subset_said : in_subset capture ≡ form_of said_in
   unfolding in_subset
-  subset-said =
+  subset_said =
       ap (λ (s : Scan). is_whole s.phase && (not (head_of capture).twice && not s.strange)) scan_said
-      ∙ ap (λ (h : Head). is_whole (scanned_by saidIn codesSaid blank_scan saidIn).phase && (not h.twice && not (scanned_by saidIn codesSaid blank_scan saidIn).strange)) head_said
+      ∙ ap (λ (h : Head). is_whole (scanned_by said_in codes_said blank_scan said_in).phase && (not h.twice && not (scanned_by said_in codes_said blank_scan said_in).strange)) head_said
 
-  missing-said : is_missing capture ≡ lacks_code 11 codesSaid
+  missing_said : is_missing capture ≡ lacks_code 11 codes_said
   unfolding is_missing
-  missing-said = ap (λ (h : Head). lacks_code 11 h.codes) head_said
+  missing_said = ap (λ (h : Head). lacks_code 11 h.codes) head_said
 
 pub blanks_unheeded : BlanksUnheeded
 blanks_unheeded a b alike =
     import_alike a b
-    (subset-said a ∙ ap (form_of a) alike ∙ sym (subset-said b))
-    (missing-said a ∙ ap (λ (ws : List Word). lacks_code 11 (defined_by blank_head ws).codes) alike ∙ sym (missing-said b))
-    (fell-said a ∙ ap (λ (ws : List Word). falls_from ws (defined_by blank_head ws).codes blank_scan ws) alike ∙ sym (fell-said b))
+    (subset_said a ∙ ap (form_of a) alike ∙ sym (subset_said b))
+    (missing_said a ∙ ap (λ (ws : List Word). lacks_code 11 (defined_by blank_head ws).codes) alike ∙ sym (missing_said b))
+    (fell_said a ∙ ap (λ (ws : List Word). falls_from ws (defined_by blank_head ws).codes blank_scan ws) alike ∙ sym (fell_said b))
 
 -- behind the start that two captures share
 
 module _ (start : List Word) where
-  then-phase : (scan_then start).phase ≡ phase_after start
-  then-phase = scanned_reached start (codes_then start) blank_scan start
+  then_phase : (scan_then start).phase ≡ phase_after start
+  then_phase = scanned_reached start (codes_then start) blank_scan start
 
-  then-come : changes_come (phase_after start) ≡ true → changes_come (scan_then start).phase ≡ true
-  then-come come = ap changes_come then-phase ∙ come
+  then_come : changes_come (phase_after start) ≡ true → changes_come (scan_then start).phase ≡ true
+  then_come come = ap changes_come then_phase ∙ come
 
-  then-whole : is_whole (phase_after start) ≡ true → is_whole (scan_then start).phase ≡ true
-  then-whole whole = ap is_whole then-phase ∙ whole
+  then_whole : is_whole (phase_after start) ≡ true → is_whole (scan_then start).phase ≡ true
+  then_whole whole = ap is_whole then_phase ∙ whole
 
 -- a change of another scalar leaves all as it was seen
 other_scanned : (all codes : List Word) (scan : Scan) (w : Word) → changes_come scan.phase ≡ true → is_change w ≡ true → is_plain w ≡ true
@@ -112,7 +112,7 @@ other_scanned : (all codes : List Word) (scan : Scan) (w : Word) → changes_com
 other_scanned all codes scan w come is plain declared none =
     let levels = others_skipped 11 codes (drop 1 w) (level_set w) scan.levels none in
     let strange : (scan.strange || not (declares (Section false) all (drop 1 w))) ≡ scan.strange =
-    ap (λ (b : Bool). scan.strange || not b) declared ∙ or-false scan.strange in
+    ap (λ (b : Bool). scan.strange || not b) declared ∙ or_false scan.strange in
     change_scanned all codes scan w come is plain
     ∙ (λ i. record {
       phase = scan.phase;
@@ -123,16 +123,16 @@ other_scanned all codes scan w come is plain declared none =
       strange = strange i;
     })
   where
-    or-false : (b : Bool) → (b || false) ≡ b
-    or-false true = refl
-    or-false false = refl
+    or_false : (b : Bool) → (b || false) ≡ b
+    or_false true = refl
+    or_false false = refl
 
 pub others_unheeded : OthersUnheeded
 unfolding scanned_by
 others_unheeded a b start rest w go other =
     let codes = codes_then start in
     let scan = scan_then start in
-    let seen = other_scanned start codes scan w (then-come start other.place) other.change other.plain other.declared other.not_needed in
+    let seen = other_scanned start codes scan w (then_come start other.place) other.change other.plain other.declared other.not_needed in
     rest_alike start (changes_over (phase_after start) other.place) a b (w ∷ rest) rest go
     (ap (λ (s : Scan). scanned_by start codes s rest) seen)
     (no_stamp_tells start codes scan w rest (change_no_stamp w other.change) ∙ ap (λ (s : Scan). falls_from start codes s rest) seen)
@@ -153,7 +153,7 @@ module _ (start : List Word) (w s : Word) (rest : List Word) (at : StampAfter st
   scan = scan_then start
 
   whole : is_whole scan.phase ≡ true
-  whole = then-whole start at.place
+  whole = then_whole start at.place
 
   come : changes_come scan.phase ≡ true
   come = whole_come scan.phase whole
@@ -161,23 +161,23 @@ module _ (start : List Word) (w s : Word) (rest : List Word) (at : StampAfter st
   begun : scan.begun ≡ false
   begun = not_begun start codes blank_scan start first refl
 
-  changed-first : scanned start codes scan w ≡ altered start codes scan (drop 1 w) (level_set w)
-  changed-first = change_scanned start codes scan w come is plain
+  changed_first : scanned start codes scan w ≡ altered start codes scan (drop 1 w) (level_set w)
+  changed_first = change_scanned start codes scan w come is plain
 
-  stamped-first : scanned start codes scan s ≡ stamped scan (stamp_of s)
-  stamped-first = stamp_scanned start codes scan s whole at.stamp at.plain
+  stamped_first : scanned start codes scan s ≡ stamped scan (stamp_of s)
+  stamped_first = stamp_scanned start codes scan s whole at.stamp at.plain
 
   both_ways : scanned start codes (scanned start codes scan w) s ≡ scanned start codes (scanned start codes scan s) w
   unfolding stamped
   both_ways =
-      ap (λ (t : Scan). scanned start codes t s) changed-first
+      ap (λ (t : Scan). scanned start codes t s) changed_first
       ∙ stamp_scanned start codes (altered start codes scan (drop 1 w) (level_set w)) s whole at.stamp at.plain
       ∙ first_either_way start codes scan (drop 1 w) (level_set w) (stamp_of s) begun
       ∙ sym (change_scanned start codes (stamped scan (stamp_of s)) w come is plain)
-      ∙ sym (ap (λ (t : Scan). scanned start codes t w) stamped-first)
+      ∙ sym (ap (λ (t : Scan). scanned start codes t w) stamped_first)
 
-  first-tells-none : falls_from start codes scan (w ∷ s ∷ rest) ≡ falls_from start codes scan (s ∷ w ∷ rest)
-  first-tells-none =
+  first_tells_none : falls_from start codes scan (w ∷ s ∷ rest) ≡ falls_from start codes scan (s ∷ w ∷ rest)
+  first_tells_none =
       let none = change_no_stamp w is in
       no_stamp_tells start codes scan w (s ∷ rest) none
       ∙ no_end_tells start codes (scanned start codes scan w) s rest
@@ -191,7 +191,7 @@ unfolding scanned_by
 first_stamp_unheeded a b start rest w s go at first is plain =
     rest_alike start (changes_over (phase_after start) (whole_come (phase_after start) at.place)) a b (w ∷ s ∷ rest) (s ∷ w ∷ rest) go
     (ap (λ (t : Scan). scanned_by start (codes_then start) t rest) (both_ways start w s rest at first is plain))
-    (first-tells-none start w s rest at first is plain)
+    (first_tells_none start w s rest at first is plain)
 
 -- the same stamp again leaves all as it was seen
 again_scanned : (all codes : List Word) (scan : Scan) (s again : Word) → is_whole scan.phase ≡ true → is_stamp s ≡ true → is_plain s ≡ true
@@ -212,7 +212,7 @@ unfolding scanned_by falls_from
 repeated_stamp_unheeded a b start rest s again go at also same-stamp =
     let codes = codes_then start in
     let scan = scan_then start in
-    let whole = then-whole start at.place in
+    let whole = then_whole start at.place in
     let once = stamp_scanned start codes scan s whole at.stamp at.plain in
     let seen = again_scanned start codes scan s again whole at.stamp at.plain also same-stamp in
     let none : ends_stamp (scanned start codes scan s) (stamp_of again) ≡ false =

@@ -85,11 +85,11 @@ pub record Carried (mem : List ℕ) (rec : Record) (d : Decision) : Type 0 where
 
 module _ (mem : List ℕ) (rec : Record) where
   -- done in this time, with this effect, and this record left
-  done-carried : (time : ℕ) (effect : Effect) (next : Record) → time ≤ long_time rec.frequency → next.half ≡ rec.half
+  done_carried : (time : ℕ) (effect : Effect) (next : Record) → time ≤ long_time rec.frequency → next.half ≡ rec.half
       → next.frequency ≡ rec.frequency → (Idle rec → Idle next) → (length mem ≡ 144 → Idle rec → Fits effect mem)
       → Carried mem rec (done time effect next)
   unfolding is_refusal
-  done-carried time effect next within half same idle fits =
+  done_carried time effect next within half same idle fits =
       record {
         half = half;
         busy = λ _. within;
@@ -106,16 +106,16 @@ module _ (mem : List ℕ) (rec : Record) where
       }
 
   -- done in the short time, the memory as it was
-  changed-carried : (next : Record) → next.half ≡ rec.half → next.frequency ≡ rec.frequency → (Idle rec → Idle next)
+  changed_carried : (next : Record) → next.half ≡ rec.half → next.frequency ≡ rec.frequency → (Idle rec → Idle next)
       → Carried mem rec (changed next)
-  changed-carried next half same idle =
-      done-carried (short_time next.frequency) Keep next (rw same (short_long rec.frequency)) half same idle (λ _ _. tt)
+  changed_carried next half same idle =
+      done_carried (short_time next.frequency) Keep next (rw same (short_long rec.frequency)) half same idle (λ _ _. tt)
 
   -- bits set, and the rest as it was
-  set-carried : (next : Record) → next.half ≡ rec.half → next.frequency ≡ rec.frequency → next.shift ≡ rec.shift → next.counter ≡ rec.counter
+  set_carried : (next : Record) → next.half ≡ rec.half → next.frequency ≡ rec.frequency → next.shift ≡ rec.shift → next.counter ≡ rec.counter
       → Carried mem rec (changed next)
-  set-carried next half same shift counter =
-      changed-carried next half same
+  set_carried next half same shift counter =
+      changed_carried next half same
       (λ idle. record {
         shift = rw shift idle.shift;
         counter = ap on_cell counter ∙ idle.counter;
@@ -124,26 +124,26 @@ module _ (mem : List ℕ) (rec : Record) where
       })
 
   -- the counter placed on a cell, or moved on to the next
-  placed-idle : (counter : Counter) → on_cell counter ≡ true → Idle rec → Idle (placed counter rec)
-  placed-idle counter on idle = record { shift = idle.shift; counter = on; frequency = idle.frequency; half = idle.half }
+  placed_idle : (counter : Counter) → on_cell counter ≡ true → Idle rec → Idle (placed counter rec)
+  placed_idle counter on idle = record { shift = idle.shift; counter = on; frequency = idle.frequency; half = idle.half }
 
-  moved-idle : Idle rec → Idle (moved_on rec)
-  moved-idle idle = placed-idle (stepped rec.entry.id rec.counter) (stepped_on rec.entry.id rec.counter) idle
+  moved_idle : Idle rec → Idle (moved_on rec)
+  moved_idle idle = placed_idle (stepped rec.entry.id rec.counter) (stepped_on rec.entry.id rec.counter) idle
 
   -- the register loaded or not
-  loaded-idle : {next : Record} {reg : ℕ} {fresh : Bool} → Idle next → Idle (with_register reg fresh next)
-  loaded-idle idle = record { shift = idle.shift; counter = idle.counter; frequency = idle.frequency; half = idle.half }
+  loaded_idle : {next : Record} {reg : ℕ} {fresh : Bool} → Idle next → Idle (with_register reg fresh next)
+  loaded_idle idle = record { shift = idle.shift; counter = idle.counter; frequency = idle.frequency; half = idle.half }
 
-  homed-idle : Idle rec → Idle (homed rec)
-  homed-idle idle = record { shift = omega arith; counter = display_on 0 (omega arith); frequency = idle.frequency; half = idle.half }
+  homed_idle : Idle rec → Idle (homed rec)
+  homed_idle idle = record { shift = omega arith; counter = display_on 0 (omega arith); frequency = idle.frequency; half = idle.half }
 
-  cleared-idle : Idle rec → Idle (cleared rec)
-  cleared-idle idle =
-      let home = homed-idle idle in
+  cleared_idle : Idle rec → Idle (cleared rec)
+  cleared_idle idle =
+      let home = homed_idle idle in
       record { shift = home.shift; counter = home.counter; frequency = home.frequency; half = home.half }
 
-  shifted-idle : (up : Bool) → Idle rec → Idle (shifted up rec)
-  shifted-idle up idle =
+  shifted_idle : (up : Bool) → Idle rec → Idle (shifted up rec)
+  shifted_idle up idle =
       record {
         shift = wrapped_below 80 up rec.shift (omega arith);
         counter = idle.counter;
@@ -151,16 +151,16 @@ module _ (mem : List ℕ) (rec : Record) where
         half = idle.half;
       }
 
-  cursor-carried : (counter : Counter) → on_cell counter ≡ true → Carried mem rec (changed (cursor_at mem counter rec))
+  cursor_carried : (counter : Counter) → on_cell counter ≡ true → Carried mem rec (changed (cursor_at mem counter rec))
   unfolding cursor_at
-  cursor-carried (Display cell) on = changed-carried _ refl refl (λ idle. loaded-idle (placed-idle (Display cell) on idle))
-  cursor-carried (Pattern cell) on = changed-carried _ refl refl (λ idle. loaded-idle (placed-idle (Pattern cell) on idle))
+  cursor_carried (Display cell) on = changed_carried _ refl refl (λ idle. loaded_idle (placed_idle (Display cell) on idle))
+  cursor_carried (Pattern cell) on = changed_carried _ refl refl (λ idle. loaded_idle (placed_idle (Pattern cell) on idle))
 
-  addressed-carried : (named : Named) → Within named → Carried mem rec (addressed mem named rec)
+  addressed_carried : (named : Named) → Within named → Carried mem rec (addressed mem named rec)
   unfolding addressed
-  addressed-carried (Cell cell) within =
-      changed-carried _ refl refl (λ idle. loaded-idle (placed-idle (Display cell) (display_on cell within) idle))
-  addressed-carried Outside within =
+  addressed_carried (Cell cell) within =
+      changed_carried _ refl refl (λ idle. loaded_idle (placed_idle (Display cell) (display_on cell within) idle))
+  addressed_carried Outside within =
       record {
         half = refl;
         busy = λ still. still;
@@ -169,19 +169,19 @@ module _ (mem : List ℕ) (rec : Record) where
         only = λ _. refl;
       }
 
-  executed-carried : (i : Instruction) → Carried mem rec (executed mem i rec)
+  executed_carried : (i : Instruction) → Carried mem rec (executed mem i rec)
   unfolding executed
-  executed-carried Nothing = changed-carried rec refl refl (λ idle. idle)
-  executed-carried Clear = done-carried _ Blank _ (le_refl (long_time rec.frequency)) refl refl cleared-idle (λ long _. omega arith)
-  executed-carried Home = done-carried _ Keep _ (le_refl (long_time rec.frequency)) refl refl homed-idle (λ _ _. tt)
-  executed-carried (SetEntry entry) = set-carried (with_entry entry rec) refl refl refl refl
-  executed-carried (SetControl control) = set-carried (with_control control rec) refl refl refl refl
-  executed-carried (MoveCursor right) = cursor-carried (stepped right rec.counter) (stepped_on right rec.counter)
-  executed-carried (ShiftDisplay right) = changed-carried _ refl refl (shifted-idle (not right))
-  executed-carried (SetFunction wide function) = set-carried (with_function wide function rec) refl refl refl refl
-  executed-carried (PatternAddress acg) =
-      changed-carried _ refl refl (λ idle. loaded-idle (placed-idle (Pattern (cell_of_acg acg)) (acg_on acg) idle))
-  executed-carried (DisplayAddress add) = addressed-carried (cell_of_add rec.function.n add) (named_within rec.function.n add)
+  executed_carried Nothing = changed_carried rec refl refl (λ idle. idle)
+  executed_carried Clear = done_carried _ Blank _ (le_refl (long_time rec.frequency)) refl refl cleared_idle (λ long _. omega arith)
+  executed_carried Home = done_carried _ Keep _ (le_refl (long_time rec.frequency)) refl refl homed_idle (λ _ _. tt)
+  executed_carried (SetEntry entry) = set_carried (with_entry entry rec) refl refl refl refl
+  executed_carried (SetControl control) = set_carried (with_control control rec) refl refl refl refl
+  executed_carried (MoveCursor right) = cursor_carried (stepped right rec.counter) (stepped_on right rec.counter)
+  executed_carried (ShiftDisplay right) = changed_carried _ refl refl (shifted_idle (not right))
+  executed_carried (SetFunction wide function) = set_carried (with_function wide function rec) refl refl refl refl
+  executed_carried (PatternAddress acg) =
+      changed_carried _ refl refl (λ idle. loaded_idle (placed_idle (Pattern (cell_of_acg acg)) (acg_on acg) idle))
+  executed_carried (DisplayAddress add) = addressed_carried (cell_of_add rec.function.n add) (named_within rec.function.n add)
 
 -- what no shift alters is as it was after the display has followed
 pub carried_keeps : {A : Type 0} (f : Record → A) (counter : Counter) (rec : Record) → ((shift : ℕ) → f (with_shift shift rec) ≡ f rec)
@@ -193,15 +193,15 @@ carried_keeps f (Pattern cell) rec same = refl
 carried_idle : (mem : List ℕ) (counter : Counter) (rec : Record) → Idle rec → Idle (carried counter rec)
 unfolding carried
 carried_idle mem (Display cell) rec idle =
-    cond-elim Idle rec.entry.s _ _ (λ _. shifted-idle mem rec rec.entry.id idle) (λ _. idle)
+    cond-elim Idle rec.entry.s _ _ (λ _. shifted_idle mem rec rec.entry.id idle) (λ _. idle)
 carried_idle mem (Pattern cell) rec idle = idle
 
 written_carried : (mem : List ℕ) (byte : ℕ) (rec : Record) → Carried mem rec (written byte rec)
 unfolding written
 written_carried mem byte rec =
-    done-carried mem rec _ _ _ (short_long rec.frequency) (carried_keeps (λ r. r.half) rec.counter (moved_on rec) (λ _. refl))
+    done_carried mem rec _ _ _ (short_long rec.frequency) (carried_keeps (λ r. r.half) rec.counter (moved_on rec) (λ _. refl))
     (carried_keeps (λ r. r.frequency) rec.counter (moved_on rec) (λ _. refl))
-    (λ idle. loaded-idle mem rec (carried_idle mem rec.counter (moved_on rec) (moved-idle mem rec idle)))
+    (λ idle. loaded_idle mem rec (carried_idle mem rec.counter (moved_on rec) (moved_idle mem rec idle)))
     (λ long idle. omega (arith, place_below rec.counter idle.counter))
 
 -- no read is refused
@@ -218,7 +218,7 @@ read_carried mem byte rec =
       busy = λ _. short_long rec.frequency;
       frequency = refl;
       kept = λ _ _ idle.
-          let moved = moved-idle mem rec idle in
+          let moved = moved_idle mem rec idle in
           record {
             sound =
                 idle_sound _ (record { shift = moved.shift; counter = moved.counter; frequency = moved.frequency; half = moved.half })
@@ -230,7 +230,7 @@ read_carried mem byte rec =
 
 pub completed_carried : (mem : List ℕ) (t : Transfer) (rec : Record) → Carried mem rec (completed mem t rec)
 unfolding completed is_refusal
-completed_carried mem (Instruct byte) rec = executed-carried mem rec (decoded byte)
+completed_carried mem (Instruct byte) rec = executed_carried mem rec (decoded byte)
 completed_carried mem (Write byte) rec = written_carried mem byte rec
 completed_carried mem (Status byte) rec =
     record {

@@ -46,13 +46,13 @@ module _ (byte : ℕ) where
   decoded_row zeros is = ap (λ (z : ℕ). row z byte) is
 
   -- bit 3 of 10h to 17h and of 18h to 1Fh
-  high-off : 0x10 ≤ byte → byte ≤ 0x17 → bit 0x08 byte ≡ false
+  high_off : 0x10 ≤ byte → byte ≤ 0x17 → bit 0x08 byte ≡ false
   unfolding bit
-  high-off over under = ne_eqb (byte / 0x08 % 2) 1 (λ e. omega arith)
+  high_off over under = ne_eqb (byte / 0x08 % 2) 1 (λ e. omega arith)
 
-  high-on : 0x18 ≤ byte → byte ≤ 0x1F → bit 0x08 byte ≡ true
+  high_on : 0x18 ≤ byte → byte ≤ 0x1F → bit 0x08 byte ≡ true
   unfolding bit
-  high-on over under = eq-eqb (byte / 0x08 % 2) 1 (omega arith)
+  high_on over under = eq-eqb (byte / 0x08 % 2) 1 (omega arith)
 
   pub decoded_nothing : byte ≤ 0x00 → decoded byte ≡ Nothing
   unfolding row
@@ -74,15 +74,15 @@ module _ (byte : ℕ) where
   unfolding row
   decoded_control over under = decoded_row 4 (leading byte 4 4 refl (omega arith) (omega arith))
 
-  decoded-move : 0x10 ≤ byte → byte ≤ 0x1F → decoded byte ≡ shift_of byte
+  decoded_move : 0x10 ≤ byte → byte ≤ 0x1F → decoded byte ≡ shift_of byte
   unfolding row
-  decoded-move over under = decoded_row 3 (leading byte 3 5 refl (omega arith) (omega arith))
+  decoded_move over under = decoded_row 3 (leading byte 3 5 refl (omega arith) (omega arith))
 
   pub decoded_cursor : 0x10 ≤ byte → byte ≤ 0x17 → decoded byte ≡ MoveCursor (bit 0x04 byte)
-  decoded_cursor over under = decoded-move over (omega arith) ∙ rw (high-off over under)
+  decoded_cursor over under = decoded_move over (omega arith) ∙ rw (high_off over under)
 
   pub decoded_shift : 0x18 ≤ byte → byte ≤ 0x1F → decoded byte ≡ ShiftDisplay (bit 0x04 byte)
-  decoded_shift over under = decoded-move (omega arith) under ∙ rw (high-on over under)
+  decoded_shift over under = decoded_move (omega arith) under ∙ rw (high_on over under)
 
   pub decoded_function : 0x20 ≤ byte → byte ≤ 0x3F → decoded byte ≡ SetFunction (bit 0x10 byte) (record { n = bit 0x08 byte; f = bit 0x04 byte })
   unfolding row
@@ -106,7 +106,7 @@ decodes_by_highest_bit byte =
     cond-elim P (leb 0x80 byte) _ _ (λ on. decoded_display byte (over 0x80 on))
     (λ off. cond-elim P (leb 0x40 byte) _ _ (λ on. decoded_pattern byte (over 0x40 on) (omega (arith, under 0x80 off)))
     (λ off. cond-elim P (leb 0x20 byte) _ _ (λ on. decoded_function byte (over 0x20 on) (omega (arith, under 0x40 off)))
-    (λ off. cond-elim P (leb 0x10 byte) _ _ (λ on. decoded-move byte (over 0x10 on) (omega (arith, under 0x20 off)))
+    (λ off. cond-elim P (leb 0x10 byte) _ _ (λ on. decoded_move byte (over 0x10 on) (omega (arith, under 0x20 off)))
     (λ off. cond-elim P (leb 0x08 byte) _ _ (λ on. decoded_control byte (over 0x08 on) (omega (arith, under 0x10 off)))
     (λ off. cond-elim P (leb 0x04 byte) _ _ (λ on. decoded_entry byte (over 0x04 on) (omega (arith, under 0x08 off)))
     (λ off. cond-elim P (leb 0x02 byte) _ _ (λ on. decoded_home byte (over 0x02 on) (omega (arith, under 0x04 off)))

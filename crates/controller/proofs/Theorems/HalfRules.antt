@@ -32,11 +32,11 @@ use Rattle.controller.specs.Rules.{Addresses, SameControl, SameEntry, SameFuncti
 
 -- after the wait, with this half or none, all else is as it was
 module _ (wait : ℕ) (rec : Record) (half : Half) where
-  function-kept : SameFunction rec (with_half half (waited wait rec))
-  function-kept = let s = waits_function wait rec in record { wide = s.wide; n = s.n; f = s.f }
+  function_kept : SameFunction rec (with_half half (waited wait rec))
+  function_kept = let s = waits_function wait rec in record { wide = s.wide; n = s.n; f = s.f }
 
-  control-kept : SameControl rec (with_half half (waited wait rec))
-  control-kept = let s = waits_control wait rec in record { d = s.d; c = s.c; b = s.b }
+  control_kept : SameControl rec (with_half half (waited wait rec))
+  control_kept = let s = waits_control wait rec in record { d = s.d; c = s.c; b = s.b }
 
   entry_kept : SameEntry rec (with_half half (waited wait rec))
   entry_kept = let s = waits_entry wait rec in record { id = s.id; s = s.s }
@@ -46,16 +46,16 @@ module _ (wait : ℕ) (rec : Record) (half : Half) where
 
 -- a half that is not refused is taken, the wait off busy
 module _ (rec : Record) (mem : List ℕ) (kind byte wait : ℕ) (n : Narrow rec mem) (good : bad_transfer kind byte ≡ false) where
-  taken-half : (half : Half) → rec.half ≡ half → must_wait kind (waited wait rec) ≡ false
+  taken_half : (half : Half) → rec.half ≡ half → must_wait kind (waited wait rec) ≡ false
       → decided rec mem kind byte wait ≡ narrow mem kind byte half (waited wait rec)
-  taken-half half is may =
+  taken_half half is may =
       taken rec mem kind byte wait n.sound n.whole good may
       ∙ accepted_narrow mem kind byte half (waited wait rec) (wide_after wait rec ∙ n.narrow) (half_after wait rec ∙ is)
 
   -- a second half never has to wait
-  taken-second : (half : Half) → rec.half ≡ half → no_half half ≡ false → decided rec mem kind byte wait ≡ narrow mem kind byte half (waited wait rec)
+  taken_second : (half : Half) → rec.half ≡ half → no_half half ≡ false → decided rec mem kind byte wait ≡ narrow mem kind byte half (waited wait rec)
   unfolding must_wait
-  taken-second half is some = taken-half half is (rw (half_after wait rec, is, some) refl)
+  taken_second half is some = taken_half half is (rw (half_after wait rec, is, some) refl)
 
 -- the byte of a status read taken after the wait
 status_taken : (rec : Record) (wait address : ℕ) → Addresses rec.function.n rec.counter address
@@ -78,8 +78,8 @@ module _ (rec : Record) (mem : List ℕ) (wait : ℕ) where
         returned = refl;
         busy = waits_busy wait rec;
         frequency = waits_frequency wait rec;
-        function = function-kept wait rec half;
-        control = control-kept wait rec half;
+        function = function_kept wait rec half;
+        control = control_kept wait rec half;
         entry = entry_kept wait rec half;
         place = place_kept wait rec half;
         cells = λ _ _. refl;
@@ -97,7 +97,7 @@ first_rule : (rec : Record) (mem : List ℕ) (kind byte wait : ℕ) → Narrow r
 first_rule rec mem kind byte wait n none good now =
     let fine = tests_false (bad_tests kind byte) good in
     subst (TakesFirst rec mem kind byte wait)
-    (sym (taken-half rec mem kind byte wait n fine Empty none (tests_false (early_tests kind wait rec) now)))
+    (sym (taken_half rec mem kind byte wait n fine Empty none (tests_false (early_tests kind wait rec) now)))
     (takes_first rec mem wait (good_is kind byte fine))
 
 -- what a second half returns
@@ -121,7 +121,7 @@ second_rule : (rec : Record) (mem : List ℕ) (kind first byte wait : ℕ) → N
     → (decided rec mem kind byte wait).byte ≡ low_half (taken_byte rec.half)
 second_rule rec mem kind first byte wait n is good =
     let some = some_waits first rec.half is in
-    ap (λ (d : Decision). d.byte) (taken-second rec mem kind byte wait n (tests_false (bad_tests kind byte) good) rec.half refl some)
+    ap (λ (d : Decision). d.byte) (taken_second rec mem kind byte wait n (tests_false (bad_tests kind byte) good) rec.half refl some)
     ∙ second_byte mem kind byte rec.half (waited wait rec) some
 
 -- an answer where the kinds differ
@@ -153,7 +153,7 @@ crossed_rule rec mem kind byte wait n good half first is of other =
         → narrow mem kind byte half (waited wait rec) ≡ second_half mem true t (waited wait rec)
         → Crosses (decided rec mem k b wait) (decided rec mem kind byte wait)
     both k b half t is some fine own crossed =
-        rw (taken-second rec mem k b wait n fine half is some ∙ own, taken-second rec mem kind byte wait n good half is some ∙ crossed)
+        rw (taken_second rec mem k b wait n fine half is some ∙ own, taken_second rec mem kind byte wait n good half is some ∙ crossed)
         (crossing mem t (waited wait rec))
 
     go : (half : Half) → rec.half ≡ half → (first : ℕ) → IsOf first half → (kind ≡ first → ⊥)
@@ -168,11 +168,11 @@ status_rule : (rec : Record) (mem : List ℕ) (taken wait : ℕ) → Narrow rec 
     → EndsStatus rec mem taken wait (decided rec mem 2 0x00 wait)
 unfolding narrow second_half completed crossed bad_transfer performed
 status_rule rec mem taken wait n is =
-    subst (EndsStatus rec mem taken wait) (sym (taken-second rec mem 2 0x00 wait n refl (StatusRead taken) is refl))
+    subst (EndsStatus rec mem taken wait) (sym (taken_second rec mem 2 0x00 wait n refl (StatusRead taken) is refl))
     (record {
       comes = record { answer = refl; byte = refl; busy = waits_busy wait rec; frequency = waits_frequency wait rec; half = refl };
-      function = function-kept wait rec Empty;
-      control = control-kept wait rec Empty;
+      function = function_kept wait rec Empty;
+      control = control_kept wait rec Empty;
       entry = entry_kept wait rec Empty;
       place = place_kept wait rec Empty;
       cells = λ _ _. refl;

@@ -39,28 +39,28 @@ use Rattle.controller.specs.Rules.{Alike, HalvesMakeWhole, TwoMake, at_width}
 
 -- what a complete transfer does takes no notice of the width
 module _ (mem : List ℕ) (wide : Bool) (rec : Record) where
-  cursor-alike : (counter : Counter) → Alike (changed (cursor_at mem counter (at_width wide rec))) (changed (cursor_at mem counter rec))
+  cursor_alike : (counter : Counter) → Alike (changed (cursor_at mem counter (at_width wide rec))) (changed (cursor_at mem counter rec))
   unfolding cursor_at
-  cursor-alike (Display cell) = record { answer = refl; effect = refl; rec = refl }
-  cursor-alike (Pattern cell) = record { answer = refl; effect = refl; rec = refl }
+  cursor_alike (Display cell) = record { answer = refl; effect = refl; rec = refl }
+  cursor_alike (Pattern cell) = record { answer = refl; effect = refl; rec = refl }
 
-  addressed-alike : (named : Named) → Alike (addressed mem named (at_width wide rec)) (addressed mem named rec)
+  addressed_alike : (named : Named) → Alike (addressed mem named (at_width wide rec)) (addressed mem named rec)
   unfolding addressed
-  addressed-alike (Cell cell) = record { answer = refl; effect = refl; rec = refl }
-  addressed-alike Outside = record { answer = refl; effect = refl; rec = refl }
+  addressed_alike (Cell cell) = record { answer = refl; effect = refl; rec = refl }
+  addressed_alike Outside = record { answer = refl; effect = refl; rec = refl }
 
-  executed-alike : (i : Instruction) → Alike (executed mem i (at_width wide rec)) (executed mem i rec)
+  executed_alike : (i : Instruction) → Alike (executed mem i (at_width wide rec)) (executed mem i rec)
   unfolding executed
-  executed-alike Nothing = record { answer = refl; effect = refl; rec = refl }
-  executed-alike Clear = record { answer = refl; effect = refl; rec = refl }
-  executed-alike Home = record { answer = refl; effect = refl; rec = refl }
-  executed-alike (SetEntry entry) = record { answer = refl; effect = refl; rec = refl }
-  executed-alike (SetControl control) = record { answer = refl; effect = refl; rec = refl }
-  executed-alike (MoveCursor right) = cursor-alike (stepped right rec.counter)
-  executed-alike (ShiftDisplay right) = record { answer = refl; effect = refl; rec = refl }
-  executed-alike (SetFunction w function) = record { answer = refl; effect = refl; rec = refl }
-  executed-alike (PatternAddress acg) = record { answer = refl; effect = refl; rec = refl }
-  executed-alike (DisplayAddress add) = addressed-alike (cell_of_add rec.function.n add)
+  executed_alike Nothing = record { answer = refl; effect = refl; rec = refl }
+  executed_alike Clear = record { answer = refl; effect = refl; rec = refl }
+  executed_alike Home = record { answer = refl; effect = refl; rec = refl }
+  executed_alike (SetEntry entry) = record { answer = refl; effect = refl; rec = refl }
+  executed_alike (SetControl control) = record { answer = refl; effect = refl; rec = refl }
+  executed_alike (MoveCursor right) = cursor_alike (stepped right rec.counter)
+  executed_alike (ShiftDisplay right) = record { answer = refl; effect = refl; rec = refl }
+  executed_alike (SetFunction w function) = record { answer = refl; effect = refl; rec = refl }
+  executed_alike (PatternAddress acg) = record { answer = refl; effect = refl; rec = refl }
+  executed_alike (DisplayAddress add) = addressed_alike (cell_of_add rec.function.n add)
 
 carried_alike : (counter : Counter) (wide : Bool) (rec : Record) → carried counter (at_width wide rec) ≡ at_width wide (carried counter rec)
 unfolding carried
@@ -73,7 +73,7 @@ carried_alike (Pattern cell) wide rec = refl
 
 completed_alike : (mem : List ℕ) (t : Transfer) (wide : Bool) (rec : Record) → Alike (completed mem t (at_width wide rec)) (completed mem t rec)
 unfolding completed written read_out
-completed_alike mem (Instruct byte) wide rec = executed-alike mem wide rec (decoded byte)
+completed_alike mem (Instruct byte) wide rec = executed_alike mem wide rec (decoded byte)
 completed_alike mem (Write byte) wide rec =
     record {
       answer = refl;
@@ -98,14 +98,14 @@ wide_waits rec mem wait w =
 
 module _ (rec : Record) (mem : List ℕ) (kind byte wait later : ℕ) (w : Waits rec mem false Empty wait) (good : bad_transfer kind byte ≡ false) (is_byte_lem : byte < 256) where
   -- halves that wait so, return this byte first, and complete this transfer, make the whole
-  two-make : (half : Half) (t : Transfer) → bad_transfer kind (high_half byte) ≡ false → bad_transfer kind (low_half byte) ≡ false
+  two_make : (half : Half) (t : Transfer) → bad_transfer kind (high_half byte) ≡ false → bad_transfer kind (low_half byte) ≡ false
       → narrow mem kind (high_half byte) Empty (busy_over rec) ≡ first_told (high_half (completed mem t (busy_over rec)).byte) half (busy_over rec)
       → ((r : Record) → narrow mem kind (low_half byte) half r ≡ second_half mem false t r)
       → begun kind byte (busy_over (at_width true rec)) ≡ t → (completed mem t (busy_over (at_width true rec))).byte ≡ (completed mem t (busy_over rec)).byte
       → TwoMake (decided rec mem kind (high_half byte) wait)
       (decided (decided rec mem kind (high_half byte) wait).rec mem kind (low_half byte) later) (decided (at_width true rec) mem kind byte wait)
   unfolding second_half crossed
-  two-make half t good-high good-low first second begins same =
+  two_make half t good-high good-low first second begins same =
       let one : decided rec mem kind (high_half byte) wait ≡ first_told (high_half (completed mem t (busy_over rec)).byte) half (busy_over rec) =
       taken_narrow rec mem Empty kind (high_half byte) wait w good-high ∙ first in
       let still : sound (with_half half (busy_over rec)) ≡ true =
@@ -153,22 +153,22 @@ module _ (rec : Record) (mem : List ℕ) (wait later : ℕ) (w : Waits rec mem f
   unfolding bad_transfer narrow begun first_half completed
   instructs byte is_byte_lem =
       let none = executed_byte mem byte (busy_over rec) in
-      two-make rec mem 0 byte wait later w refl is_byte_lem (InstructionWrite (byte / 16)) (Instruct byte) refl refl
+      two_make rec mem 0 byte wait later w refl is_byte_lem (InstructionWrite (byte / 16)) (Instruct byte) refl refl
       (rw (none, high_of byte)) (λ r. rw (whole_of byte)) refl (executed_byte mem byte (busy_over (at_width true rec)) ∙ sym none)
 
   writes : (byte : ℕ) → byte < 256 → Made rec mem wait later 1 byte
   unfolding bad_transfer narrow begun first_half completed written
   writes byte is_byte_lem =
-      two-make rec mem 1 byte wait later w refl is_byte_lem (DataWrite (byte / 16)) (Write byte) refl refl (rw (high_of byte)) (λ r. rw (whole_of byte)) refl refl
+      two_make rec mem 1 byte wait later w refl is_byte_lem (DataWrite (byte / 16)) (Write byte) refl refl (rw (high_of byte)) (λ r. rw (whole_of byte)) refl refl
 
   statuses : Made rec mem wait later 2 0
   unfolding bad_transfer narrow begun first_half completed status_of
   statuses =
-      two-make rec mem 2 0 wait later w refl (omega arith) (StatusRead (status_of (busy_over rec))) (Status (status_of (busy_over rec))) refl refl refl (λ r. refl) refl refl
+      two_make rec mem 2 0 wait later w refl (omega arith) (StatusRead (status_of (busy_over rec))) (Status (status_of (busy_over rec))) refl refl refl (λ r. refl) refl refl
 
   reads : Made rec mem wait later 3 0
   unfolding bad_transfer narrow begun first_half completed read_out
-  reads = two-make rec mem 3 0 wait later w refl (omega arith) (DataRead rec.reg) (Read rec.reg) refl refl refl (λ r. refl) refl refl
+  reads = two_make rec mem 3 0 wait later w refl (omega arith) (DataRead rec.reg) (Read rec.reg) refl refl refl (λ r. refl) refl refl
 
 -- a good transfer is of kind 0 to 3, and a read has no byte
 pub data Good : ℕ → ℕ → Type 0 where

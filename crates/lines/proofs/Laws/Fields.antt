@@ -115,9 +115,9 @@ byte_same kind text other a b c = simp (a, b, c)
 
 module _ (text : List ℕ) where
   -- a letter that cannot stand
-  no-letter : ltb 3 (kind_of (text_at text 0)) ≡ true → FaultAt text BadKind 0
+  no_letter : ltb 3 (kind_of (text_at text 0)) ≡ true → FaultAt text BadKind 0
   unfolding line_of with_kind kind_read
-  no-letter e =
+  no_letter e =
       record {
         kind = 0;
         byte = 0;
@@ -131,66 +131,66 @@ module _ (text : List ℕ) where
       }
 
   module _ (letter : ltb 3 (kind_of (text_at text 0)) ≡ false) where
-    is-kind : kind_of (text_at text 0) ≤ 3
-    is-kind = ltb-false 3 (kind_of (text_at text 0)) letter
+    is_kind : kind_of (text_at text 0) ≤ 3
+    is_kind = ltb-false 3 (kind_of (text_at text 0)) letter
 
-    is-letter : letter_of (kind_of (text_at text 0)) ≡ text_at text 0
-    is-letter = let below = is-kind in letter_kind (text_at text 0) (omega arith)
+    is_letter : letter_of (kind_of (text_at text 0)) ≡ text_at text 0
+    is_letter = let below = is_kind in letter_kind (text_at text 0) (omega arith)
 
-    has-letter : 0 < length text
-    has-letter = inside_at text 0 (text_at text 0) refl (letter_some (text_at text 0) is-kind)
+    has_letter : 0 < length text
+    has_letter = inside_at text 0 (text_at text 0) refl (letter_some (text_at text 0) is_kind)
 
     -- a tab that does not stand after it
-    no-tab : eqb (text_at text 1) tab ≡ false → FaultAt text BadKind 1
+    no_tab : eqb (text_at text 1) tab ≡ false → FaultAt text BadKind 1
     unfolding line_of with_kind kind_read line kind_field
-    no-tab e =
-        let below = is-kind in
+    no_tab e =
+        let below = is_kind in
         record {
           kind = kind_of (text_at text 0);
           byte = 0;
           wait = 0;
           sayable = with_kind_lem (kind_of (text_at text 0)) (omega arith);
-          inside = let some = has-letter in omega arith;
+          inside = let some = has_letter in omega arith;
           few = omega arith;
-          first = take_more text 0 has-letter ∙ ap (λ (b : ℕ). b ∷ []) (sym is-letter);
+          first = take_more text 0 has_letter ∙ ap (λ (b : ℕ). b ∷ []) (sym is_letter);
           reads = simp (letter, e);
           again = λ inside more. simp (at_same text more 1 0 inside (omega arith), at_same text more 1 1 inside (omega arith), letter, e);
         }
 
     -- one that does
-    kind-is : eqb (text_at text 1) tab ≡ true → KindIs text (kind_of (text_at text 0))
+    kind_is : eqb (text_at text 1) tab ≡ true → KindIs text (kind_of (text_at text 0))
     unfolding kind_read kind_field
-    kind-is e =
-        let below = is-kind in
+    kind_is e =
+        let below = is_kind in
         let inside = inside_at text 1 tab (eqb-true (text_at text 1) tab e) (omega arith) in
         record {
           below = omega arith;
           inside = omega arith;
           first = take_more text 1 inside
-              ∙ ap (λ (l : List ℕ). l ++ (text_at text 1 ∷ [])) (take_more text 0 has-letter)
-              ∙ simp (eqb-true (text_at text 1) tab e, is-letter);
+              ∙ ap (λ (l : List ℕ). l ++ (text_at text 1 ∷ [])) (take_more text 0 has_letter)
+              ∙ simp (eqb-true (text_at text 1) tab e, is_letter);
           reads = simp (letter, e);
         }
 
   -- a kind stands, or it has a fault
-  kind-cases : {A : Type 0} → ((kind : ℕ) → KindIs text kind → A) → ((place : ℕ) → place ≤ 1 → kind_read text ≡ Fault BadKind place → FaultAt text BadKind place → A) → A
+  kind_cases : {A : Type 0} → ((kind : ℕ) → KindIs text kind → A) → ((place : ℕ) → place ≤ 1 → kind_read text ≡ Fault BadKind place → FaultAt text BadKind place → A) → A
   unfolding kind_read
-  kind-cases stands faults =
-      either (ltb 3 (kind_of (text_at text 0))) (λ e. faults 0 (omega arith) (simp e) (no-letter e))
+  kind_cases stands faults =
+      either (ltb 3 (kind_of (text_at text 0))) (λ e. faults 0 (omega arith) (simp e) (no_letter e))
       (λ e. either (eqb (text_at text 1) tab)
-      (λ t. stands (kind_of (text_at text 0)) (kind-is e t))
-      (λ t. faults 1 (omega arith) (simp (e, t)) (no-tab e t)))
+      (λ t. stands (kind_of (text_at text 0)) (kind_is e t))
+      (λ t. faults 1 (omega arith) (simp (e, t)) (no_tab e t)))
 
   module _ (kind : ℕ) (of : KindIs text kind) where
-    kind-again : (more : List ℕ) (place : ℕ) → place < length text → 1 ≤ place → kind_read (take (suc place) text ++ more) ≡ Stands kind
-    kind-again more place inside after =
+    kind_again : (more : List ℕ) (place : ℕ) → place < length text → 1 ≤ place → kind_read (take (suc place) text ++ more) ≡ Stands kind
+    kind_again more place inside after =
         kind_same text (take (suc place) text ++ more) (at_same text more place 0 inside (omega arith)) (at_same text more place 1 inside after)
         ∙ of.reads
 
     -- a first digit that cannot stand
-    no-high : digit_stands kind (worth_of (text_at text 2)) ≡ false → FaultAt text BadByte 2
+    no_high : digit_stands kind (worth_of (text_at text 2)) ≡ false → FaultAt text BadByte 2
     unfolding line_of with_kind with_byte byte_read line kind_field
-    no-high e =
+    no_high e =
         record {
           kind = kind;
           byte = 0;
@@ -200,24 +200,24 @@ module _ (text : List ℕ) where
           few = omega arith;
           first = of.first;
           reads = simp (of.reads, e);
-          again = λ inside more. simp (kind-again more 2 inside (omega arith), at_same text more 2 2 inside (omega arith), e);
+          again = λ inside more. simp (kind_again more 2 inside (omega arith), at_same text more 2 2 inside (omega arith), e);
         }
 
     module _ (first-stands : digit_stands kind (worth_of (text_at text 2)) ≡ true) where
-      high-below : worth_of (text_at text 2) < 16
-      high-below = digit_below kind (worth_of (text_at text 2)) first-stands
+      high_below : worth_of (text_at text 2) < 16
+      high_below = digit_below kind (worth_of (text_at text 2)) first-stands
 
-      has-high : 2 < length text
-      has-high = inside_at text 2 (text_at text 2) refl (digit_some (text_at text 2) high-below)
+      has_high : 2 < length text
+      has_high = inside_at text 2 (text_at text 2) refl (digit_some (text_at text 2) high_below)
 
       three : take 3 text ≡ kind_field kind ++ (digit (worth_of (text_at text 2)) ∷ [])
-      three = take_more text 2 has-high ∙ simp (of.first, digit_worth (text_at text 2) high-below)
+      three = take_more text 2 has_high ∙ simp (of.first, digit_worth (text_at text 2) high_below)
 
       -- a second one that cannot
-      no-low : digit_stands kind (worth_of (text_at text 3)) ≡ false → FaultAt text BadByte 3
+      no_low : digit_stands kind (worth_of (text_at text 3)) ≡ false → FaultAt text BadByte 3
       unfolding line_of with_kind with_byte byte_read line kind_field byte_field
-      no-low e =
-          let below = high-below in
+      no_low e =
+          let below = high_below in
           let up : (worth_of (text_at text 2) * 16 + 0) / 16 ≡ worth_of (text_at text 2) = omega arith in
           record {
             kind = kind;
@@ -229,32 +229,32 @@ module _ (text : List ℕ) where
               is_byte = omega arith;
               is_wait = omega arith;
             };
-            inside = let some = has-high in omega arith;
+            inside = let some = has_high in omega arith;
             few = omega arith;
             first = three ∙ simp up;
             reads = simp (of.reads, first-stands, e);
             again = λ inside more.
-                simp (kind-again more 3 inside (omega arith), at_same text more 3 2 inside (omega arith), at_same text more 3 3 inside (omega arith), first-stands, e);
+                simp (kind_again more 3 inside (omega arith), at_same text more 3 2 inside (omega arith), at_same text more 3 3 inside (omega arith), first-stands, e);
           }
 
       module _ (second-stands : digit_stands kind (worth_of (text_at text 3)) ≡ true) where
         low_below : worth_of (text_at text 3) < 16
         low_below = digit_below kind (worth_of (text_at text 3)) second-stands
 
-        has-low : 3 < length text
-        has-low = inside_at text 3 (text_at text 3) refl (digit_some (text_at text 3) low_below)
+        has_low : 3 < length text
+        has_low = inside_at text 3 (text_at text 3) refl (digit_some (text_at text 3) low_below)
 
         four : take 4 text ≡ kind_field kind ++ hex_pair (byte_at text)
         four =
-            let a = high-below in
+            let a = high_below in
             let b = low_below in
             let up : byte_at text / 16 ≡ worth_of (text_at text 2) = omega arith in
             let down : byte_at text % 16 ≡ worth_of (text_at text 3) = omega arith in
-            take_more text 3 has-low ∙ simp (three, up, down, digit_worth (text_at text 3) low_below, append_assoc)
+            take_more text 3 has_low ∙ simp (three, up, down, digit_worth (text_at text 3) low_below, append_assoc)
 
-        sayable-byte : Sayable kind (byte_at text) 0
-        sayable-byte =
-            let a = high-below in
+        sayable_byte : Sayable kind (byte_at text) 0
+        sayable_byte =
+            let a = high_below in
             let b = low_below in
             record {
               transfer = digits_stand kind (worth_of (text_at text 2)) (worth_of (text_at text 3)) of.below first-stands second-stands;
@@ -263,48 +263,48 @@ module _ (text : List ℕ) where
             }
 
         -- a tab that does not stand after them
-        no-second-tab : eqb (text_at text 4) tab ≡ false → FaultAt text BadByte 4
+        no_second_tab : eqb (text_at text 4) tab ≡ false → FaultAt text BadByte 4
         unfolding line_of with_kind with_byte byte_read line kind_field byte_field
-        no-second-tab e =
+        no_second_tab e =
             record {
               kind = kind;
               byte = byte_at text;
               wait = 0;
-              sayable = sayable-byte;
-              inside = let some = has-low in omega arith;
+              sayable = sayable_byte;
+              inside = let some = has_low in omega arith;
               few = omega arith;
               first = four;
               reads = simp (of.reads, first-stands, second-stands, e);
               again = λ inside more.
-                  simp (kind-again more 4 inside (omega arith), at_same text more 4 2 inside (omega arith), at_same text more 4 3 inside (omega arith), at_same text more 4 4 inside (omega arith), first-stands, second-stands, e);
+                  simp (kind_again more 4 inside (omega arith), at_same text more 4 2 inside (omega arith), at_same text more 4 3 inside (omega arith), at_same text more 4 4 inside (omega arith), first-stands, second-stands, e);
             }
 
         -- one that does
-        byte-is : eqb (text_at text 4) tab ≡ true → ByteIs text kind (byte_at text)
+        byte_is : eqb (text_at text 4) tab ≡ true → ByteIs text kind (byte_at text)
         unfolding byte_read byte_field
-        byte-is e =
+        byte_is e =
             let inside = inside_at text 4 tab (eqb-true (text_at text 4) tab e) (omega arith) in
             record {
               of = of;
-              good = sayable-byte.transfer;
-              is_byte = sayable-byte.is_byte;
+              good = sayable_byte.transfer;
+              is_byte = sayable_byte.is_byte;
               inside = omega arith;
               first = take_more text 4 inside ∙ simp (four, eqb-true (text_at text 4) tab e, append_assoc);
               reads = simp (first-stands, second-stands, e);
             }
 
     -- a byte stands, or it has a fault
-    byte-cases : {A : Type 0} → ((byte : ℕ) → ByteIs text kind byte → A)
+    byte_cases : {A : Type 0} → ((byte : ℕ) → ByteIs text kind byte → A)
         → ((place : ℕ) → 2 ≤ place → place ≤ 4 → byte_read kind text ≡ Fault BadByte place → FaultAt text BadByte place → A) → A
     unfolding byte_read
-    byte-cases stands faults =
+    byte_cases stands faults =
         either (digit_stands kind (worth_of (text_at text 2)))
         (λ a. either (digit_stands kind (worth_of (text_at text 3)))
         (λ b. either (eqb (text_at text 4) tab)
-        (λ t. stands (byte_at text) (byte-is a b t))
-        (λ t. faults 4 (omega arith) (omega arith) (simp (a, b, t)) (no-second-tab a b t)))
-        (λ b. faults 3 (omega arith) (omega arith) (simp (a, b)) (no-low a b)))
-        (λ a. faults 2 (omega arith) (omega arith) (simp a) (no-high a))
+        (λ t. stands (byte_at text) (byte_is a b t))
+        (λ t. faults 4 (omega arith) (omega arith) (simp (a, b, t)) (no_second_tab a b t)))
+        (λ b. faults 3 (omega arith) (omega arith) (simp (a, b)) (no_low a b)))
+        (λ a. faults 2 (omega arith) (omega arith) (simp a) (no_high a))
 
 -- a wait that has a fault
 module _ (text : List ℕ) (kind byte : ℕ) (is : ByteIs text kind byte) (answer : Answer) (at : ℕ) (bad : wait_of text ≡ Bad answer at) where
@@ -312,19 +312,19 @@ module _ (text : List ℕ) (kind byte : ℕ) (is : ByteIs text kind byte) (answe
   halts = begun_halts (drop 5 text) 5 answer at (sym (wait_begun text) ∙ bad)
 
   -- the first bytes of the text, and those of the wait
-  more-than-five : (n : ℕ) → take (5 + n) text ≡ (kind_field kind ++ byte_field byte) ++ take n (drop 5 text)
-  more-than-five n = take-add 5 n text ∙ ap (λ (l : List ℕ). l ++ take n (drop 5 text)) is.first
+  more_than_five : (n : ℕ) → take (5 + n) text ≡ (kind_field kind ++ byte_field byte) ++ take n (drop 5 text)
+  more_than_five n = take-add 5 n text ∙ ap (λ (l : List ℕ). l ++ take n (drop 5 text)) is.first
 
-  wait-again : halts.count < length (drop 5 text) → (more : List ℕ) → wait_of (take (5 + suc halts.count) text ++ more) ≡ Bad answer at
+  wait_again : halts.count < length (drop 5 text) → (more : List ℕ) → wait_of (take (5 + suc halts.count) text ++ more) ≡ Bad answer at
   unfolding kind_field byte_field
-  wait-again inside more =
+  wait_again inside more =
       wait_begun (take (5 + suc halts.count) text ++ more)
-      ∙ ap (λ (l : List ℕ). begun 5 (drop 5 (l ++ more))) (more-than-five (suc halts.count))
+      ∙ ap (λ (l : List ℕ). begun 5 (drop 5 (l ++ more))) (more_than_five (suc halts.count))
       ∙ halts.again inside more
 
-  wait-faults : FaultAt text answer at
+  wait_faults : FaultAt text answer at
   unfolding line_of with_kind with_byte with_wait line kind_field byte_field
-  wait-faults =
+  wait_faults =
       let h = halts in
       let place = h.is_place in
       let long = is.inside in
@@ -340,15 +340,15 @@ module _ (text : List ℕ) (kind byte : ℕ) (is : ByteIs text kind byte) (answe
         inside = omega arith;
         few = omega arith;
         first = ap (λ (n : ℕ). take n text) place
-            ∙ more-than-five h.count
+            ∙ more_than_five h.count
             ∙ ap (λ (l : List ℕ). (kind_field kind ++ byte_field byte) ++ l) h.first
             ∙ sym (take-append-add (kind_field kind ++ byte_field byte) (number_field h.wait newline) h.count)
             ∙ ap (λ (n : ℕ). take n (line kind byte h.wait)) (sym place);
         reads = simp (is.of.reads, is.reads, bad);
         again = λ inside more.
-            let wait = rw next at (wait-again (omega arith) more) in
+            let wait = rw next at (wait_again (omega arith) more) in
             simp (
-              kind-again text kind is.of more at inside (omega arith),
+              kind_again text kind is.of more at inside (omega arith),
               byte_same kind text (take (suc at) text ++ more)
                   (at_same text more at 2 inside (omega arith)) (at_same text more at 3 inside (omega arith)) (at_same text more at 4 inside (omega arith))
                   ∙ is.reads,
@@ -360,7 +360,7 @@ module _ (text : List ℕ) (kind byte : ℕ) (is : ByteIs text kind byte) (answe
 pub data Which (text : List ℕ) (answer : Answer) : Type 0 where
   no_kind : answer ≡ BadKind → (KindStands text → ⊥) → Which text answer
   no_byte : answer ≡ BadByte → KindStands text → (ByteStands text → ⊥) → Which text answer
-  no-wait : answer ≡ BadWait → ByteStands text → (WaitStands text → ⊥) → Which text answer
+  no_wait : answer ≡ BadWait → ByteStands text → (WaitStands text → ⊥) → Which text answer
   no_end : answer ≡ NoNewline → WaitStands text → (Starts text → ⊥) → Which text answer
 
 -- a kind that stands begins the text
@@ -439,11 +439,11 @@ line_lacks text kind byte answer at is bad s =
     go good = let no : ◌≡◌ {A = ℕ} 0 1 = cc in omega arith
 
 module _ (text : List ℕ) (kind byte : ℕ) (is : ByteIs text kind byte) (answer : Answer) (at : ℕ) (bad : wait_of text ≡ Bad answer at) where
-  wait-which : Which text answer
-  wait-which =
+  wait_which : Which text answer
+  wait_which =
       let h = halts text kind byte is answer at bad in
       let eighteen : answer ≡ BadWait → Which text answer =
-      λ e. no-wait e (byte_begins text kind byte is) (λ w. wait_not_bad text at w (bad ∙ ap (λ (a : Answer). Bad a at) e)) in
+      λ e. no_wait e (byte_begins text kind byte is) (λ w. wait_not_bad text at w (bad ∙ ap (λ (a : Answer). Bad a at) e)) in
       ⊎_elim (λ none. eighteen none.0)
       (λ some. ⊎_elim (λ digit. eighteen digit.0)
       (λ other.
@@ -451,10 +451,10 @@ module _ (text : List ℕ) (kind byte : ℕ) (is : ByteIs text kind byte) (answe
       some.2)
       h.why
 
-  wait-number : number_of answer ≡ number_at text at
-  wait-number =
+  wait_number : number_of answer ≡ number_at text at
+  wait_number =
       let h = halts text kind byte is answer at bad in
-      number_wait text kind byte h.count h.wait answer h.inside (more-than-five text kind byte is answer at bad h.count) h.why
+      number_wait text kind byte h.count h.wait answer h.inside (more_than_five text kind byte is answer at bad h.count) h.why
       ∙ ap (number_at text) (sym h.is_place)
 
 -- a line is read, or it has a fault: where it is, which it is, and its number by its place
@@ -462,9 +462,9 @@ pub line_cases : {A : Type 0} (text : List ℕ)
     → ((kind byte wait end : ℕ) → ByteIs text kind byte → wait_of text ≡ Good wait end → A)
     → ((answer : Answer) (place : ℕ) → FaultAt text answer place → Which text answer → number_of answer ≡ number_at text place → A) → A
 line_cases {A} text stands faults =
-    kind-cases text
+    kind_cases text
     (λ kind of.
-    byte-cases text kind of (λ byte is. go kind byte is (wait_of text) refl)
+    byte_cases text kind of (λ byte is. go kind byte is (wait_of text) refl)
     (λ place many few bad fault.
     faults BadByte place fault (no_byte refl (kind_begins text kind of) (byte_lacks text kind place of.reads bad))
     (sym (number_byte text fault.kind fault.byte fault.wait place many few fault.first))))
@@ -475,4 +475,4 @@ line_cases {A} text stands faults =
     go : (kind byte : ℕ) → ByteIs text kind byte → (w : Wait) → wait_of text ≡ w → A
     go kind byte is (Good wait end) e = stands kind byte wait end is e
     go kind byte is (Bad answer at) e =
-        faults answer at (wait-faults text kind byte is answer at e) (wait-which text kind byte is answer at e) (wait-number text kind byte is answer at e)
+        faults answer at (wait_faults text kind byte is answer at e) (wait_which text kind byte is answer at e) (wait_number text kind byte is answer at e)

@@ -74,9 +74,9 @@ module _ (text : List ℕ) (place value : ℕ) (inside : place < length text) wh
 
   module _ (other : get_or text place 0 ≡ newline → ⊥) where
     -- a byte that is no digit
-    pub rest-other : 9 < worth_of (get_or text place 0) → rest_of place value (drop place text) ≡ Bad NoNewline place
+    pub rest_other : 9 < worth_of (get_or text place 0) → rest_of place value (drop place text) ≡ Bad NoNewline place
     unfolding rest_of
-    rest-other large =
+    rest_other large =
         rw (drop-cons text place 0 inside)
         (simp (ne_eqb (get_or text place 0) newline other, lt-ltb 9 (worth_of (get_or text place 0)) large))
 
@@ -89,9 +89,9 @@ module _ (text : List ℕ) (place value : ℕ) (inside : place < length text) wh
         (simp (ne_eqb (get_or text place 0) newline other, le-ltb 9 (worth_of (get_or text place 0)) small, may, add-one))
 
     -- and one that may not
-    pub rest-stops : worth_of (get_or text place 0) ≤ 9 → may_follow value (worth_of (get_or text place 0)) ≡ false
+    pub rest_stops : worth_of (get_or text place 0) ≤ 9 → may_follow value (worth_of (get_or text place 0)) ≡ false
         → rest_of place value (drop place text) ≡ Bad BadWait place
     unfolding rest_of
-    rest-stops small may =
+    rest_stops small may =
         rw (drop-cons text place 0 inside)
         (simp (ne_eqb (get_or text place 0) newline other, le-ltb 9 (worth_of (get_or text place 0)) small, may))

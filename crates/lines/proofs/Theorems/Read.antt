@@ -26,7 +26,7 @@ use Rattle.lines.specs.Faults.{ReaderAnswers, ReadOrRefused, FirstThatCannotStan
 use Rattle.lines.specs.Faults.{fault_rows, reader_rows, IsFault, Completes, FirstFault, number_at}
 use Rattle.lines.proofs.Laws.Digits.{either, decimal_some, field_length}
 use Rattle.lines.proofs.Laws.Lengths.{line_length_lem, line_fits}
-use Rattle.lines.proofs.Laws.Fields.{ByteIs, FaultAt, Which, no_kind, no_byte, no-wait, no_end, line_cases}
+use Rattle.lines.proofs.Laws.Fields.{ByteIs, FaultAt, Which, no_kind, no_byte, no_wait, no_end, line_cases}
 use Rattle.lines.proofs.Laws.Parts.{line_wait, wait_byte, byte_kind}
 use Rattle.lines.proofs.Laws.Waits.{wait_begun, ReadFrom, begun_good}
 use Rattle.lines.proofs.Theorems.Written.{written_reads_back}
@@ -64,8 +64,8 @@ module _ (text : List ℕ) (kind byte wait end : ℕ) (is : ByteIs text kind byt
         omega (arith, ends),
       )
 
-  own-bytes : take end text ≡ line kind byte wait
-  own-bytes = ap (take end) stands ∙ take_at (line kind byte wait) from.more end (sym ends)
+  own_bytes : take end text ≡ line kind byte wait
+  own_bytes = ap (take end) stands ∙ take_at (line kind byte wait) from.more end (sym ends)
 
 -- a text that starts with a line is read
 starts_read : (text : List ℕ) → Starts text → (line_of text).answer ≡ Done
@@ -80,7 +80,7 @@ not_started text answer place other bad s = other (ap (λ (l : Line). l.answer) 
 which_fault : (text : List ℕ) (answer : Answer) → Which text answer → IsFault answer
 which_fault text answer (no_kind is _) = rw is (record { least = omega arith; most = omega arith })
 which_fault text answer (no_byte is _ _) = rw is (record { least = omega arith; most = omega arith })
-which_fault text answer (no-wait is _ _) = rw is (record { least = omega arith; most = omega arith })
+which_fault text answer (no_wait is _ _) = rw is (record { least = omega arith; most = omega arith })
 which_fault text answer (no_end is _ _) = rw is (record { least = omega arith; most = omega arith })
 
 -- which is not that of a line that is read
@@ -133,7 +133,7 @@ read_writes_back text out done enough =
     read_by text done
     (λ kind byte wait end is good.
     rw (reads text kind byte wait end is good)
-    (simp (is.good, le-ltb (length out) 16 enough, own-bytes text kind byte wait end is good)))
+    (simp (is.good, le-ltb (length out) 16 enough, own_bytes text kind byte wait end is good)))
 
 -- the bytes before a fault are the first of a line, so the rest of that line completes them
 fault_before : (text : List ℕ) (answer : Answer) (place : ℕ) → FaultAt text answer place → Completes (take place text)
@@ -213,7 +213,7 @@ which_rows : (text : List ℕ) (answer : Answer) (rows : List Row) → Which tex
 unfolding fault_rows
 which_rows text answer rows (no_kind is lacks) = rw is (applies_here _ _ lacks)
 which_rows text answer rows (no_byte is kind lacks) = rw is (applies_later _ _ _ (λ none. none kind) (applies_here _ _ lacks))
-which_rows text answer rows (no-wait is byte lacks) =
+which_rows text answer rows (no_wait is byte lacks) =
     rw is (applies_later _ _ _ (λ none. none (byte_kind text byte)) (applies_later _ _ _ (λ none. none byte) (applies_here _ _ lacks)))
 which_rows text answer rows (no_end is wait lacks) =
     let byte = wait_byte text wait in

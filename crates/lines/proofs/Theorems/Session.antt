@@ -203,11 +203,11 @@ none_lacks Stands text in_lines well b =
 
 -- in a bad line a part is lacking exactly where it does not stand there
 module _ (text : List ℕ) (b : BadLineIn Starts text) (Stands : List ℕ → Type 0) where
-  lacks-to : (Stands b.more → ⊥) → BadLineIn Stands text
-  lacks-to none = record { sent = b.sent; more = b.more; sayable = b.sayable; parts = b.parts; some = b.some; lacks = none }
+  lacks_to : (Stands b.more → ⊥) → BadLineIn Stands text
+  lacks_to none = record { sent = b.sent; more = b.more; sayable = b.sayable; parts = b.parts; some = b.some; lacks = none }
 
-  lacks-from : InLines Stands → BadLineIn Stands text → Stands b.more → ⊥
-  lacks-from in_lines other s =
+  lacks_from : InLines Stands → BadLineIn Stands text → Stands b.more → ⊥
+  lacks_from in_lines other s =
       let same = one_split b.sent other.sent b.more other.more b.sayable other.sayable (sym b.parts ∙ other.parts) b.lacks
       (λ o. other.lacks (in_lines other.more o)) in
       other.lacks (subst Stands same s)
@@ -233,14 +233,14 @@ session_answers text =
     (λ b.
     let ends = ap session_of b.parts ∙ bad_ends b.sent b.more b.sayable b.some b.lacks in
     tells_as _ _ _ (ap (λ (s : Session). number_of s.end) ends) (λ n. (
-      λ e. given_alike n _ _ _ _ refl (lacks-to text b KindStands) (lacks-from text b KindStands kind_in)
-          (given_alike n _ _ _ _ refl (lacks-to text b ByteStands) (lacks-from text b ByteStands byte_in)
-          (given_alike n _ _ _ _ refl (lacks-to text b WaitStands) (lacks-from text b WaitStands line_wait)
-          (given_alike n _ _ _ _ refl (lacks-to text b Starts) (lacks-from text b Starts line_in) (λ g. g))))
+      λ e. given_alike n _ _ _ _ refl (lacks_to text b KindStands) (lacks_from text b KindStands kind_in)
+          (given_alike n _ _ _ _ refl (lacks_to text b ByteStands) (lacks_from text b ByteStands byte_in)
+          (given_alike n _ _ _ _ refl (lacks_to text b WaitStands) (lacks_from text b WaitStands line_wait)
+          (given_alike n _ _ _ _ refl (lacks_to text b Starts) (lacks_from text b Starts line_in) (λ g. g))))
           ((refused_rows b.more [] b.lacks n).0 e),
       λ g. (refused_rows b.more [] b.lacks n).1
-          (given_alike n _ _ _ _ refl (lacks-from text b KindStands kind_in) (lacks-to text b KindStands)
-          (given_alike n _ _ _ _ refl (lacks-from text b ByteStands byte_in) (lacks-to text b ByteStands)
-          (given_alike n _ _ _ _ refl (lacks-from text b WaitStands line_wait) (lacks-to text b WaitStands)
-          (given_alike n _ _ _ _ refl (lacks-from text b Starts line_in) (lacks-to text b Starts) (λ g. g)))) g),
+          (given_alike n _ _ _ _ refl (lacks_from text b KindStands kind_in) (lacks_to text b KindStands)
+          (given_alike n _ _ _ _ refl (lacks_from text b ByteStands byte_in) (lacks_to text b ByteStands)
+          (given_alike n _ _ _ _ refl (lacks_from text b WaitStands line_wait) (lacks_to text b WaitStands)
+          (given_alike n _ _ _ _ refl (lacks_from text b Starts line_in) (lacks_to text b Starts) (λ g. g)))) g),
     )))

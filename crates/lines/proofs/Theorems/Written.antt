@@ -48,8 +48,8 @@ module _ (kind byte wait : ℕ) (more : List ℕ) (can : Sayable kind byte wait)
   byte_read_lem =
       ap (byte_read kind) parts ∙ byte_written kind byte (number_field wait newline ++ more) can.transfer can.is_byte
 
-  wait-read : wait_of (line kind byte wait ++ more) ≡ Good wait (length (line kind byte wait))
-  wait-read =
+  wait_read : wait_of (line kind byte wait ++ more) ≡ Good wait (length (line kind byte wait))
+  wait_read =
       ap wait_of parts
       ∙ wait_after kind byte (number_field wait newline ++ more)
       ∙ wait_reads 5 wait more can.is_wait
@@ -57,7 +57,7 @@ module _ (kind byte wait : ℕ) (more : List ℕ) (can : Sayable kind byte wait)
 
   reads_back : line_of (line kind byte wait ++ more) ≡ line_read kind byte wait
   unfolding line_of with_kind with_byte with_wait
-  reads_back = simp (kind_read_lem, byte_read_lem, wait-read)
+  reads_back = simp (kind_read_lem, byte_read_lem, wait_read)
 
 pub written_reads_back : WrittenReadsBack
 written_reads_back kind byte wait more can = reads_back kind byte wait more can

@@ -81,17 +81,17 @@ module _ (w : Way) (s : State) (byte : ℕ) where
   abbrev one : Decision
   one = first_told 0 (w.waits (byte / 16)) (busy_over s.rec)
 
-  first-sent : (wait : ℕ) → Steady wait s.rec → comes_to s (first_sent wait command) ≡ one
+  first_sent_lem : (wait : ℕ) → Steady wait s.rec → comes_to s (first_sent wait command) ≡ one
   unfolding comes_to
-  first-sent wait steady =
+  first_sent_lem wait steady =
       accepted_narrow s.mem w.kind (high_half byte) Empty (busy_over s.rec) steady.narrow steady.half
       ∙ w.first s.mem (high_half byte) (busy_over s.rec)
       ∙ ap (λ (high : ℕ). first_told 0 (w.waits high) (busy_over s.rec)) (high_of byte)
 
-  second-sent : s.rec.wide ≡ false → s.rec.half ≡ Empty
+  second_sent_lem : s.rec.wide ≡ false → s.rec.half ≡ Empty
       → comes_to (after s one) (second_sent command) ≡ ended false (completed s.mem (w.makes byte) (busy_over s.rec))
   unfolding comes_to second_half performed
-  second-sent thin none =
+  second_sent_lem thin none =
       accepted_narrow s.mem w.kind (low_half byte) (w.waits (byte / 16)) one.rec thin refl
       ∙ w.second s.mem (byte / 16) (low_half byte) one.rec
       ∙ ap (λ (b : ℕ). ended false (completed s.mem (w.makes b) (with_half Empty (busy_over s.rec)))) (whole_of byte)
@@ -104,9 +104,9 @@ module _ (w : Way) (s : State) (byte : ℕ) where
       → (Inv k (after s d) → Safe k Q (after s d) (in_halves k.times time cs)) → Safe k Q s (in_halves k.times wait (command ∷ cs))
   unfolding in_halves performed
   in_two k Q wait time cs d below does harmless-one harmless takes inv steady rest =
-      step_to k Q s (first_sent wait command) _ one (first-sent wait steady) inv (w.good (high_half byte)) (omega arith) steady.busy harmless-one
+      step_to k Q s (first_sent wait command) _ one (first_sent_lem wait steady) inv (w.good (high_half byte)) (omega arith) steady.busy harmless-one
       (λ next. step_to k Q (after s one) (second_sent command) _ (ended false d)
-      (second-sent steady.narrow steady.half ∙ ap (ended false) does) next (w.good (low_half byte)) (omega arith) zero-le harmless
+      (second_sent_lem steady.narrow steady.half ∙ ap (ended false) does) next (w.good (low_half byte)) (omega arith) zero-le harmless
       (λ last. subst (λ (t : ℕ). Safe k Q (after s d) (in_halves k.times t cs)) (sym takes) (rest last)))
 
 -- an instruction that keeps the memory, and then the rest
@@ -127,16 +127,16 @@ pub write_wished : (k : Scene) (Q : State → Type 0) (s : State) (byte wait tim
 unfolding completed bad_transfer narrow begun first_half
 write_wished k Q s byte wait time cs d mark wished does stores none =
     in_two writing s byte k Q wait time cs d (subst (λ (b : ℕ). b < 256) (sym wished) (k.bytes (place_of s.rec.counter) mark)) does
-    (record { effect = Mild.keeps; half = λ high is _. inr (mark, inr (half-wished high is)) })
+    (record { effect = Mild.keeps; half = λ high is _. inr (mark, inr (half_wished high is)) })
     (record {
       effect = subst (Mild k) (sym stores) (Mild.stores (place_of s.rec.counter) byte (λ _. inr (mark, inl wished)));
-      half = λ high is _. absurd (never-writes high (sym none ∙ is));
+      half = λ high is _. absurd (never_writes high (sym none ∙ is));
     })
   where
-    half-wished : (high : ℕ) → DataWrite (byte / 16) ≡ DataWrite high → high * 16 + 3 ≡ high_half (get_or k.values (place_of s.rec.counter) 0) + 3
-    half-wished high is =
+    half_wished : (high : ℕ) → DataWrite (byte / 16) ≡ DataWrite high → high * 16 + 3 ≡ high_half (get_or k.values (place_of s.rec.counter) 0) + 3
+    half_wished high is =
         let same : byte / 16 ≡ high = cc in
         omega (arith, same, wished)
 
-    never-writes : (high : ℕ) → Empty ≡ DataWrite high → ⊥
-    never-writes high is = let zero : ◌≡◌ {A = ℕ} 0 1 = cc in omega arith
+    never_writes : (high : ℕ) → Empty ≡ DataWrite high → ⊥
+    never_writes high is = let zero : ◌≡◌ {A = ℕ} 0 1 = cc in omega arith

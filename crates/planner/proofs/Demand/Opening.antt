@@ -78,14 +78,14 @@ ends_quiet mem t rec = empty_quiet _ (completed_carried mem t (with_half Empty (
 
 -- at width 8 a single instruction is complete at once, and at width 4 what waits decides
 module _ (P : Decision → Type 0) (s : State) (byte wait : ℕ) where
-  at-eight : s.rec.wide ≡ true → P (completed s.mem (begun 0 byte (busy_over s.rec)) (busy_over s.rec)) → P (comes_to s (single byte wait))
+  at_eight : s.rec.wide ≡ true → P (completed s.mem (begun 0 byte (busy_over s.rec)) (busy_over s.rec)) → P (comes_to s (single byte wait))
   unfolding comes_to
-  at-eight wide p = subst P (sym (accepted_wide s.mem 0 byte (busy_over s.rec) wide)) p
+  at_eight wide p = subst P (sym (accepted_wide s.mem 0 byte (busy_over s.rec) wide)) p
 
-  at-four : (half : Half) → s.rec.wide ≡ false → s.rec.half ≡ half → P (narrow s.mem 0 byte half (busy_over s.rec))
+  at_four : (half : Half) → s.rec.wide ≡ false → s.rec.half ≡ half → P (narrow s.mem 0 byte half (busy_over s.rec))
       → P (comes_to s (single byte wait))
   unfolding comes_to
-  at-four half thin waits p = subst P (sym (accepted_narrow s.mem 0 byte half (busy_over s.rec) thin waits)) p
+  at_four half thin waits p = subst P (sym (accepted_narrow s.mem 0 byte half (busy_over s.rec) thin waits)) p
 
 -- 30h, the first time
 first_30 : (k : Scene) (s : State) (wait : ℕ) → Inv k s → Harmless k (comes_to s (single 0x30 wait)) × Found (comes_to s (single 0x30 wait)).rec
@@ -98,15 +98,15 @@ first_30 k s wait inv = go s.rec.wide s.rec.half refl refl
     go : (wide : Bool) (half : Half) → s.rec.wide ≡ wide → s.rec.half ≡ half → P (comes_to s (single 0x30 wait))
     go true half w h =
         let none : s.rec.half ≡ Empty = wide_none s.rec.wide s.rec.busy s.rec.half w (sound_half s.rec inv.sound) in
-        at-eight P s 0x30 wait w (quiet k _ refl (empty_quiet _ none), (short_long s.rec.frequency, inl none))
-    go false Empty w h = at-four P s 0x30 wait Empty w h (quiet k _ refl refl, (zero-le, inr (w, refl)))
+        at_eight P s 0x30 wait w (quiet k _ refl (empty_quiet _ none), (short_long s.rec.frequency, inl none))
+    go false Empty w h = at_four P s 0x30 wait Empty w h (quiet k _ refl refl, (zero-le, inr (w, refl)))
     go false (InstructionWrite high) w h =
-        at-four P s 0x30 wait (InstructionWrite high) w h (
+        at_four P s 0x30 wait (InstructionWrite high) w h (
           quiet k _ (instruct_keeps s.mem (high * 16 + 3) _ (λ e. omega arith)) (ends_quiet s.mem (Instruct (high * 16 + 3)) s.rec),
           ends s.mem (Instruct (high * 16 + 3)) s.rec,
         )
     go false (DataWrite high) w h =
-        at-four P s 0x30 wait (DataWrite high) w h (
+        at_four P s 0x30 wait (DataWrite high) w h (
           record {
             effect = Mild.stores (place_of s.rec.counter) (high * 16 + 3) (inv.half high h);
             half = λ more is _. absurd (no_write _ (ends_quiet s.mem (Write (high * 16 + 3)) s.rec) more is);
@@ -114,36 +114,36 @@ first_30 k s wait inv = go s.rec.wide s.rec.half refl refl
           ends s.mem (Write (high * 16 + 3)) s.rec,
         )
     go false (StatusRead taken) w h =
-        at-four P s 0x30 wait (StatusRead taken) w h (quiet k _ refl refl, ends s.mem (Status taken) s.rec)
-    go false (DataRead taken) w h = at-four P s 0x30 wait (DataRead taken) w h (quiet k _ refl refl, ends s.mem (Read taken) s.rec)
+        at_four P s 0x30 wait (StatusRead taken) w h (quiet k _ refl refl, ends s.mem (Status taken) s.rec)
+    go false (DataRead taken) w h = at_four P s 0x30 wait (DataRead taken) w h (quiet k _ refl refl, ends s.mem (Read taken) s.rec)
 
 -- 30h, the second time
 second_30 : (k : Scene) (s : State) (wait : ℕ) → Found s.rec → Harmless k (comes_to s (single 0x30 wait)) × Halfway (comes_to s (single 0x30 wait)).rec
 unfolding narrow begun first_half second_half completed executed decoded bit half_write
 second_30 k s wait found =
     ⊎_elim (λ none. go s.rec.wide refl none)
-    (λ three. at-four P s 0x30 wait (InstructionWrite 3) three.0 three.1 (quiet k _ refl refl, (le_refl (short_time s.rec.frequency), inl (refl, refl)))) found.1
+    (λ three. at_four P s 0x30 wait (InstructionWrite 3) three.0 three.1 (quiet k _ refl refl, (le_refl (short_time s.rec.frequency), inl (refl, refl)))) found.1
   where
     P : Decision → Type 0
     P d = Harmless k d × Halfway d.rec
 
     go : (wide : Bool) → s.rec.wide ≡ wide → s.rec.half ≡ Empty → P (comes_to s (single 0x30 wait))
-    go true w none = at-eight P s 0x30 wait w (quiet k _ refl (empty_quiet _ none), (le_refl (short_time s.rec.frequency), inl (refl, none)))
-    go false w none = at-four P s 0x30 wait Empty w none (quiet k _ refl refl, (zero-le, inr (w, refl)))
+    go true w none = at_eight P s 0x30 wait w (quiet k _ refl (empty_quiet _ none), (le_refl (short_time s.rec.frequency), inl (refl, none)))
+    go false w none = at_four P s 0x30 wait Empty w none (quiet k _ refl refl, (zero-le, inr (w, refl)))
 
 -- 30h, the third time
 third_30 : (k : Scene) (s : State) (wait : ℕ) → Halfway s.rec → Harmless k (comes_to s (single 0x30 wait)) × Wide (comes_to s (single 0x30 wait)).rec
 unfolding narrow begun second_half completed executed decoded bit half_write
 third_30 k s wait halfway =
     let P : Decision → Type 0 = λ d. Harmless k d × Wide d.rec in
-    ⊎_elim (λ at. at-eight P s 0x30 wait at.0 (quiet k _ refl (empty_quiet _ at.1), (le_refl (short_time s.rec.frequency), refl, at.1)))
-    (λ at. at-four P s 0x30 wait (InstructionWrite 3) at.0 at.1 (quiet k _ refl refl, (le_refl (short_time s.rec.frequency), refl, refl))) halfway.1
+    ⊎_elim (λ at. at_eight P s 0x30 wait at.0 (quiet k _ refl (empty_quiet _ at.1), (le_refl (short_time s.rec.frequency), refl, at.1)))
+    (λ at. at_four P s 0x30 wait (InstructionWrite 3) at.0 at.1 (quiet k _ refl refl, (le_refl (short_time s.rec.frequency), refl, refl))) halfway.1
 
 -- 20h
 then_20 : (k : Scene) (s : State) (wait : ℕ) → Wide s.rec → Harmless k (comes_to s (single 0x20 wait)) × Steady 100 (comes_to s (single 0x20 wait)).rec
 unfolding begun completed executed decoded bit
 then_20 k s wait at =
-    at-eight (λ d. Harmless k d × Steady 100 d.rec) s 0x20 wait at.1
+    at_eight (λ d. Harmless k d × Steady 100 d.rec) s 0x20 wait at.1
     (quiet k _ refl (empty_quiet _ at.2), record { busy = short_bound s.rec.frequency; narrow = refl; half = at.2 })
 
 -- four single transfers, each waiting as long as the controller can be busy, and then the rest

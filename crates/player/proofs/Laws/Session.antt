@@ -38,7 +38,7 @@ pub sent_sound : (state : State) (text : List ℕ) → is_done (line_of text).an
     → sound (decided_of state (sent_of (line_of text))).rec ≡ true
 sent_sound state text good is =
     transfer_keeps_sound state.rec state.mem (line_of text).kind (line_of text).byte (line_of text).wait
-    (read_is_sayable text (done_is (line_of text).answer good)).0.is_byte_lem is
+    (read_is_sayable text (done_is (line_of text).answer good)).0.is_byte is
 
 pub rows_none : (number : ℕ) (state : State) → rows_of number state (ended_by Done) ≡ []
 unfolding rows_of rows_from heard last_row

@@ -93,17 +93,17 @@ wanted_more false a b = refl
 
 module _ (rows : Bool) (place : Place) (mem out : List ℕ) where
   -- at the end of the text
-  walked-done : walked rows place mem out (ended_by Done) ≡ ended_at Done place mem out
+  walked_done : walked rows place mem out (ended_by Done) ≡ ended_at Done place mem out
   unfolding walked
-  walked-done =
+  walked_done =
       simp (leaving_last place.number place.from place.tally (state_at place mem) Done, rows_none place.number (state_at place mem), wanted_none rows, add-zero)
 
   -- at a bad line
-  walked-bad : (answer : Answer) {at : ℕ} {out' : List ℕ} → is_done answer ≡ false
+  walked_bad : (answer : Answer) {at : ℕ} {out' : List ℕ} → is_done answer ≡ false
       → RowTold rows (row place.number (number_of answer) 0 place.rec.busy) place.at out at out'
       → ended_at answer (record { from = place.from; at = at; number = place.number; rec = place.rec; tally = place.tally }) mem out' ≡ walked rows place mem out (ended_by answer)
   unfolding walked
-  walked-bad answer bad tells =
+  walked_bad answer bad tells =
       simp (leaving_last place.number place.from place.tally (state_at place mem) answer, rows_last place.number (state_at place mem) answer bad, tells.after, tells.buffer)
 
   -- one transfer more
@@ -137,8 +137,8 @@ room_row false at text enough = enough
 
 module _ {rows : Bool} {text : List ℕ} {place : Place} {out : List ℕ} (fits : HasRoom rows text out place) (some : place.from < length text)
     {line : Line} (read : line ≡ line_of (take (length text - place.from) (drop place.from text))) where
-  is-line : line ≡ line_of (drop place.from text)
-  is-line = line_at text place.from some read
+  is_line : line ≡ line_of (drop place.from text)
+  is_line = line_at text place.from some read
 
   more : 0 < length (drop place.from text)
   more = more_text text place.from some read
@@ -147,8 +147,8 @@ module _ {rows : Bool} {text : List ℕ} {place : Place} {out : List ℕ} (fits 
   own is = done_at text place.from some read is
 
   -- its length is that of its line
-  own-length : is_done line.answer ≡ true → line.length ≡ length (lineText line.kind line.byte line.wait)
-  own-length good = rw is-line (read_length (drop place.from text) (done_is (line_of (drop place.from text)).answer (own good)))
+  own_length : is_done line.answer ≡ true → line.length ≡ length (lineText line.kind line.byte line.wait)
+  own_length good = rw is_line (read_length (drop place.from text) (done_is (line_of (drop place.from text)).answer (own good)))
 
   -- a bad line ends the walk
   pub line_stops : {mem : List ℕ} {at : ℕ} {out' : List ℕ} → is_done line.answer ≡ false
@@ -158,8 +158,8 @@ module _ {rows : Bool} {text : List ℕ} {place : Place} {out : List ℕ} (fits 
   line_stops {mem} bad tells =
       record {
         goes = λ good. absurd (false≢true (sym bad ∙ good));
-        stops = λ _ k. walked-bad rows place mem out line.answer bad tells
-            ∙ ap (λ (l : Line). walked rows place mem out (ended_by l.answer)) is-line
+        stops = λ _ k. walked_bad rows place mem out line.answer bad tells
+            ∙ ap (λ (l : Line). walked rows place mem out (ended_by l.answer)) is_line
             ∙ ap (walked rows place mem out) (sym (read_bad k (drop place.from text) more (own bad)));
       }
 
@@ -190,8 +190,8 @@ module _ {rows : Bool} {text : List ℕ} {place : Place} {out : List ℕ} (fits 
           };
           left = λ k. ap (λ (t : List ℕ). walked rows next mem' out' (read_up_to k t)) (sym (drop-drop line.length place.from text))
               ∙ walked_more rows place mem out (sent_of line) (read_up_to k (drop line.length (drop place.from text))) next refl
-              (ap (λ (n : ℕ). place.from + n) (own-length good)) (simp (performs.told, performs.memory)) (rw performs.told at refused) (rw performs.told at tells)
-              ∙ ap (λ (l : Line). walked rows place mem out (following (sent_of l) (read_up_to k (drop l.length (drop place.from text))))) is-line
+              (ap (λ (n : ℕ). place.from + n) (own_length good)) (simp (performs.told, performs.memory)) (rw performs.told at refused) (rw performs.told at tells)
+              ∙ ap (λ (l : Line). walked rows place mem out (following (sent_of l) (read_up_to k (drop l.length (drop place.from text))))) is_line
               ∙ ap (walked rows place mem out) (sym (read_more k (drop place.from text) more (own good)));
         };
         stops = λ bad. absurd (false≢true (sym bad ∙ good));
@@ -216,14 +216,14 @@ walk_stops {rows} {text} {place} {mem} {out} lines some played bad =
 pub text_over : (rows : Bool) (lines : ℕ) (text : List ℕ) (place : Place) (mem out : List ℕ) → length text ≤ place.from
     → ended_at Done place mem out ≡ walked_from rows lines text place mem out
 text_over rows lines text place mem out over =
-    sym (walked-done rows place mem out)
+    sym (walked_done rows place mem out)
     ∙ ap (walked rows place mem out) (sym (read_none lines) ∙ ap (read_up_to lines) (sym (drop_of_length-le text over)))
 
 -- or so many lines were played
 pub lines_over : (rows : Bool) (lines : ℕ) (text : List ℕ) (place : Place) (mem out : List ℕ) → lines ≡ 0
     → ended_at Done place mem out ≡ walked_from rows lines text place mem out
 lines_over rows lines text place mem out none =
-    sym (walked-done rows place mem out)
+    sym (walked_done rows place mem out)
     ∙ ap (walked rows place mem out)
     (sym (read_enough (drop place.from text)) ∙ ap (λ (n : ℕ). read_up_to n (drop place.from text)) (sym none))
 

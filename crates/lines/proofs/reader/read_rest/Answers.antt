@@ -2,7 +2,7 @@
 -- their value, is what was to be read at the start. The value stays within the limit; the measure is what is left of the text.
 -- Assumes nothing.
 use mathlib.Core.Path.{sym, ◌∙◌}
-use Rattle.lines.proofs.Laws.Steps.{follow_digit, rest_none, rest_ends, rest-other, rest_more, rest-stops}
+use Rattle.lines.proofs.Laws.Steps.{follow_digit, rest_none, rest_ends, rest_other, rest_more, rest_stops}
 use Rattle.lines.proofs.reader.read_rest.Goals as goal
 
 pub returns-then-byte-eq10 : goal.returns-then-byte-eq10
@@ -17,7 +17,7 @@ returns-then-worth-gt9 c =
     let loop = other in
     let large = rw c.worth_of-worth.ensures at c.if-worth-gt9.true in
     sym
-    (rest-other loop.args.text.now loop.loop-place.place loop.loop-place.value other.loop-place-test.true other.if-byte-eq10.false large)
+    (rest_other loop.args.text.now loop.loop-place.place loop.loop-place.value other.loop-place-test.true other.if-byte-eq10.false large)
     ∙ loop.loop-place.invariant.1
 
 pub returns-then-not-may_follow : goal.returns-then-not-may_follow
@@ -28,7 +28,7 @@ returns-then-not-may_follow c =
     let worth = digit.worth_of-worth.ensures in
     let stops = sym c.may_follow.ensures ∙ c.if-not-may_follow.true in
     sym
-    (rest-stops loop.args.text.now loop.loop-place.place loop.loop-place.value other.loop-place-test.true other.if-byte-eq10.false
+    (rest_stops loop.args.text.now loop.loop-place.place loop.loop-place.value other.loop-place-test.true other.if-byte-eq10.false
     (rw worth at digit.if-worth-gt9.false) (rw worth at stops))
     ∙ loop.loop-place.invariant.1
 
