@@ -1,7 +1,7 @@
 /* A board has kept an account in the cells behind the glass. It plans a panel that shows "HELLO", plays the plan, stops in
  * the middle of a letter, begins the same plan again and lets it finish. The panel stands as wished, and the account too.
  *
- *     rt staticlib interface
+ *     tests/build.sh interface
  *     cc -Iinclude examples/plan_panel.c target/staticlib/libinterface.a -o target/plan_panel
  *     target/plan_panel [none | instruction | data | status | read]
  *

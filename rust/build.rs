@@ -1,4 +1,4 @@
-//! Links the proved library, which `rt staticlib interface` builds.
+//! Links the proved library, which `tests/build.sh interface` builds.
 
 use std::path::Path;
 
@@ -8,7 +8,7 @@ fn main() {
     println!("cargo::rerun-if-changed={}", archive.display());
     assert!(
         archive.exists(),
-        "target/staticlib/libinterface.a is missing: run 'rt staticlib interface' first"
+        "target/staticlib/libinterface.a is missing: run 'tests/build.sh interface' first"
     );
     println!("cargo::rustc-link-search=native={}", folder.display());
     println!("cargo::rustc-link-lib=static=interface");

@@ -8,13 +8,14 @@ root=$(cd "$(dirname "$0")/.." && pwd)
 cargo=$(command -v cargo || echo "${HOME:-}/.cargo/bin/cargo")
 [ -x "$cargo" ] || { echo "bench: the command cargo is needed" >&2; exit 1; }
 cd "$root"
-[ -x target/bin/session ] || rt check session
-[ -f target/staticlib/libinterface.a ] || rt staticlib interface
+session=$root/crates/session/out/session
+[ -x "$session" ] || tests/build.sh session
+[ -f target/staticlib/libinterface.a ] || tests/build.sh interface
 cd rust
 "$cargo" build --release --offline --quiet
-target/release/bench "$root/target/bin/session" target/release/session_model "$@"
+target/release/bench "$session" target/release/session_model "$@"
 echo
 echo "with the model compiled into the loops:"
 export CARGO_PROFILE_RELEASE_LTO=fat CARGO_PROFILE_RELEASE_CODEGEN_UNITS=1
 "$cargo" build --release --offline --quiet --target-dir target/inlined
-target/inlined/release/bench "$root/target/bin/session" target/inlined/release/session_model "$@"
+target/inlined/release/bench "$session" target/inlined/release/session_model "$@"

@@ -14,7 +14,7 @@ if [ -z "$c" ]; then
     echo "c: no C compiler is found, so the example and the header are not compiled"
     exit 0
 fi
-[ -f "$library" ] || { echo "c: $library is not built: run 'rt staticlib interface' first" >&2; exit 1; }
+[ -f "$library" ] || { echo "c: $library is not built: run 'tests/build.sh interface' first" >&2; exit 1; }
 
 # Compiles a program from one source: its name, the source, and the compiler with its words. No warning is allowed.
 compile() {

@@ -1,11 +1,11 @@
 #!/bin/sh
-# Runs target/bin/capture on every tests/capture/NAME.in and compares what it writes with NAME.out, and what it tells with
+# Runs the program `capture` on every tests/capture/NAME.in and compares what it writes with NAME.out, and what it tells with
 # NAME.errors or, where there is no such file, with nothing; so too on examples. Then on what no file can show: long input, and
 # standard input or output that is closed, full or cannot be read.
 # Prints 'capture: N passed, M failed', and fails where M is not 0.
 set -u
 cd "$(dirname "$0")/.." || exit 1
-program=target/bin/capture
+program=crates/capture/out/capture
 suite=capture
 . tests/common.sh
 is_built "$program" capture

@@ -9,7 +9,7 @@ failed=0
 
 # Ends the suite where a program of this crate is not built.
 is_built() {
-    [ -x "$1" ] || { echo "$suite: $1 is not built: run 'rt check $2' first" >&2; exit 1; }
+    [ -x "$1" ] || { echo "$suite: $1 is not built: run 'tests/build.sh $2' first" >&2; exit 1; }
 }
 
 # Counts a test by its name and a status, 0 where it passed.

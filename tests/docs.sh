@@ -61,11 +61,13 @@ spans docs/PROMISES.md docs/READING.md > "$work/spans"
 all_in 'no such must-fail edit' "$work/edits_named" "$work/edits"
 all_in 'a must-fail edit that PROMISES.md and READING.md do not name' "$work/edits" "$work/spans"
 
-# --- Paths: words with a slash. What is under target/ is built, and need not be there; I/D is a setting of the controller.
+# --- Paths: words with a slash. What is under target/ or in a crate's out/ is built, and need not be there; I/D is a setting of
+# the controller.
 {
     spans README.md docs/*.md
     sed -n 's/^    \([.a-z]\)/\1/p' README.md docs/*.md
-} | tr ' ' '\n' | grep -E '^[A-Za-z.][A-Za-z0-9_.*-]*/[A-Za-z0-9_.*/-]*$' | grep -vE '^(target/|I/D$)' > "$work/paths"
+} | tr ' ' '\n' | grep -E '^[A-Za-z.][A-Za-z0-9_.*-]*/[A-Za-z0-9_.*/-]*$' \
+    | grep -vE '^(target/|crates/[A-Za-z_]+/out(/|$)|I/D$)' > "$work/paths"
 sort -u "$work/paths" | existing > "$work/paths_there"
 all_in 'no such file or folder' "$work/paths" "$work/paths_there"
 for document in README.md docs/*.md examples/README.md rust/README.md; do
@@ -81,35 +83,50 @@ for main in crates/*/src/main.rt; do
 done > "$work/programs"
 all_in 'no such program' "$work/programs_named" "$work/programs"
 
-# --- Public functions: each has its heading in PROMISES.md, or its row. What a crate that stands on libc reads and writes no
-# contract can say: such a library is a part of the programs.
-awk -F ': ' '/^[a-z]/ && !/ libc( |$)/ { sub(/:.*/, "", $1); print "crates/" $1 "/src/lib.rt" }' crates.txt \
-    | existing > "$work/libraries"
-# Their names hold no blanks.
+# --- Public functions: each has its heading in PROMISES.md, or its row. What a crate reads and writes no contract can say: a
+# library that does so, by std's `io` or a `HostRuntime`, is a part of the programs. A static library gives out no name.
+sed -n 's/^\([a-z][a-z0-9_]*\):.*/\1/p' crates.txt | while read -r crate; do
+    [ ! -e "crates/$crate/src/lib.rt" ] || grep -qE 'std::io|HostRuntime' "crates/$crate/src/"*.rt \
+        || echo "crates/$crate/src/lib.rt"
+done > "$work/libraries"
+# What they give out, a line each, `crate module name`: one name of `pub use module::name;` or each of `pub use module::{a, b};`.
+# Types and constants begin with a capital letter, and whatever else is no function's name is looked for as it stands.
+# The libraries' names hold no blanks.
 # shellcheck disable=SC2046
-sed -n 's/^pub use .*::\([a-z][a-z0-9_]*\);/\1/p' $(cat "$work/libraries") > "$work/functions"
+awk '/^pub use / { text = ""; inside = 1 }
+inside { sub(/^ +/, ""); text = text (text == "" ? "" : " ") $0 }
+inside && /;$/ {
+    inside = 0
+    split(FILENAME, folder, "/")
+    sub(/^pub use /, "", text); sub(/;$/, "", text)
+    at = index(text, "::"); module = substr(text, 1, at - 1); text = substr(text, at + 2)
+    if (text ~ /^{.*}$/) text = substr(text, 2, length(text) - 2)
+    count = split(text, name, /, */)
+    for (i = 1; i <= count; i++) {
+        gsub(/^ +| +$/, "", name[i]); gsub(/ /, "_", name[i])
+        if (name[i] != "" && name[i] !~ /^[A-Z][A-Za-z0-9_]*$/) print folder[2], module, name[i]
+    }
+}' $(cat "$work/libraries") > "$work/given"
+cut -d ' ' -f 3 "$work/given" > "$work/functions"
 {
     grep '^### ' docs/PROMISES.md | spans | sed 's/(.*//'
     # shellcheck disable=SC2016
     sed -n 's/^| `\([a-z_]*\)` |.*/\1/p' docs/PROMISES.md
 } > "$work/promised"
 all_in 'a public function without its promise in PROMISES.md' "$work/functions" "$work/promised"
-sed -n 's/^  pub \([a-z-]*\) :.*/\1/p' crates/promises/specs/Determined.antt | tr - _ > "$work/determined"
+sed -n 's/^  pub \([a-z][a-z0-9_]*\) :.*/\1/p' crates/promises/specs/Determined.antt > "$work/determined"
 all_in 'a public function that EachDetermined lacks' "$work/functions" "$work/determined"
 
 # --- Promises: a public function's one predicate has its name, `IsSoundPromise` for `is_sound`, in its crate's
 # specs/Promises.antt. The contract is that predicate alone, of all that is given, lent things as found, of what is returned, and
-# of each thing lent for writing as it is left. The function's field of EachDetermined is it too, of the field's variables.
+# of each thing lent for writing as it is left. A function of `interface` is exported by `interface_c`, with the same contract. The
+# function's field of EachDetermined is it too, of the field's variables.
 promise='function promise_of(name, words, count, made, i) {
     count = split(name, words, "_")
     for (i = 1; i <= count; i++) made = made toupper(substr(words[i], 1, 1)) substr(words[i], 2)
     return made "Promise"
 }'
-# shellcheck disable=SC2046
-awk "$promise"'/^pub use .*::[a-z][a-z0-9_]*;/ {
-    split(FILENAME, folder, "/"); split($3, part, /::|;/)
-    print folder[2] "::" part[1] "::" part[2], folder[2] "::" promise_of(part[2])
-}' $(cat "$work/libraries") > "$work/public"
+awk "$promise"'{ print $1 "::" $2 "::" $3, $1 "::" promise_of($3) }' "$work/given" > "$work/public"
 cut -d ' ' -f 2 "$work/public" > "$work/predicates_named"
 awk '/^abbrev pub [A-Za-z0-9]*Promise :/ { split(FILENAME, folder, "/"); print folder[2] "::" $3 }' \
     crates/*/specs/Promises.antt > "$work/predicates"
@@ -117,6 +134,8 @@ all_in 'a public function without its predicate in specs/Promises.antt' "$work/p
 all_in 'a predicate of no public function in specs/Promises.antt' "$work/predicates" "$work/predicates_named"
 
 cut -d ' ' -f 1 "$work/public" > "$work/contracts_named"
+sed -n 's/^interface [a-z_]* /interface_c::lib::/p' "$work/given" > "$work/exports"
+cat "$work/exports" >> "$work/contracts_named"
 awk "$promise"'
 # The text is `pub fn NAME(GIVEN) -> RESULT CONTRACT` on one line.
 function is_cited(name, given, count, part, i, cited, left, result) {
@@ -124,12 +143,11 @@ function is_cited(name, given, count, part, i, cited, left, result) {
     cited = promise_of(name)
     for (i = 1; i <= count; i++) {
         split(given[i], part, ":"); gsub(/ /, "", part[1])
-        if (part[1] != "") cited = cited " " (part[2] ~ /^ &/ ? "(now (" part[1] " .entry))" : part[1])
-        if (part[2] ~ /^ &mut /) left = left " (now (" part[1] " .exit))"
+        if (part[1] != "") cited = cited " " part[1] (part[2] ~ /^ &mut / ? ".old" : part[2] ~ /^ &/ ? ".now" : "")
+        if (part[2] ~ /^ &mut /) left = left " " part[1] ".new"
     }
-    result = text ~ /\) -> / ? "r" : "_"
-    if (result == "r") cited = cited (text ~ /\) -> &/ ? " (now r)" : " r")
-    return match(text, /(requires|ensures) \{/) && substr(text, RSTART) == "ensures { λ " result ". ⌜ " cited left " ⌝ }"
+    if (text ~ /\) -> /) cited = cited (text ~ /\) -> &/ ? " result.now" : " result")
+    return match(text, /(requires|ensures)[^{]*\{/) && substr(text, RSTART) == "ensures { " cited left " }"
 }
 /^pub (extern "C" )?fn / { text = ""; inside = 1 }
 /^\{/ && inside {
@@ -144,10 +162,10 @@ all_in 'a contract that is not its predicate alone' "$work/contracts_named" "$wo
 awk "$promise"'
 # The text is `NAME : (VARIABLES : TYPE)... → ExactlyOne (λ (x : RESULT). CITED x)` on one line.
 function field(name, variables, cited) {
-    name = text; sub(/ :.*/, "", name); gsub(/-/, "_", name)
-    variables = text; sub(/^[a-z-]* :/, "", variables); sub(/ (→ )?ExactlyOne.*/, "", variables)
+    name = text; sub(/ :.*/, "", name)
+    variables = text; sub(/^[a-z0-9_]* :/, "", variables); sub(/ (→ )?ExactlyOne.*/, "", variables)
     gsub(/\(| : [^()]*\)/, "", variables)
-    cited = text; sub(/.*ExactlyOne \(λ \(x : [^()]*\)\. /, "", cited); sub(/( x| \(x \.[0-9]\))+\)$/, "", cited)
+    cited = text; sub(/.*ExactlyOne \(λ \(x : [^()]*\)\. /, "", cited); sub(/( x(\.[0-9])?)+\)$/, "", cited)
     if (cited == promise_of(name) variables) print name
 }
 /^  pub / { if (text != "") field(); text = $0; sub(/^  pub /, "", text); next }
@@ -156,7 +174,7 @@ END { field() }' crates/promises/specs/Determined.antt > "$work/fields"
 all_in 'a field of EachDetermined that is not its predicate' "$work/functions" "$work/fields"
 
 # --- Answers: each number has its row in README.md and its name in the header, and no other has.
-sed -n 's/^numberOf [A-Za-z]* = \([0-9]*\)$/\1/p' crates/controller/specs/Answers.antt > "$work/answers"
+sed -n 's/^number_of [A-Za-z]* = \([0-9]*\)$/\1/p' crates/controller/specs/Answers.antt > "$work/answers"
 sed -n 's/^| \([0-9]*\) | .*/\1/p' README.md > "$work/answers_told"
 sed -n '/^\/\* Answers/,/^$/s/^#define YAROPESK_[A-Z_]* \([0-9]*\).*/\1/p' include/yaropesk.h > "$work/answers_named"
 all_in 'an answer without its row in README.md' "$work/answers" "$work/answers_told"
@@ -165,7 +183,7 @@ all_in 'an answer without its name in the header' "$work/answers" "$work/answers
 all_in 'an answer of the header that the code does not give' "$work/answers_named" "$work/answers"
 
 # --- Definitions: `Module.name` is defined in specs/Module.antt, `module::name` in src/module.rt of some crate.
-grep -E '^[A-Z][A-Za-z0-9]*\.[A-Za-z0-9]+$' "$work/spans" > "$work/definitions_named"
+grep -E '^[A-Z][A-Za-z0-9]*\.[A-Za-z0-9_]+$' "$work/spans" > "$work/definitions_named"
 awk '/^(unfoldable |abbrev )?pub / && !/^pub mod / {
     module = FILENAME; sub(/.*\//, "", module); sub(/\.antt/, "", module)
     for (i = 1; $i ~ /^(unfoldable|abbrev|pub|record|data)$/; i++) {}
@@ -178,18 +196,21 @@ awk '/^(pub )?fn / {
     name = $0; sub(/^(pub )?fn /, "", name); sub(/[^a-z0-9_].*/, "", name)
     print module "::" name
 }' crates/*/src/*.rt > "$work/code"
-# What is said of the kit's crates cannot be looked up here.
-sed -n 's/.*: //p' crates.txt | tr ' ' '\n' | sort -u | while read -r crate; do
+# What is said of the kit's crates, std among them, cannot be looked up here.
+{
+    echo std
+    sed -n 's/.*: //p' crates.txt | tr ' ' '\n' | sort -u
+} | while read -r crate; do
     [ -d "crates/$crate" ] || grep "^$crate::" "$work/code_named"
 done >> "$work/code"
 all_in 'no such function' "$work/code_named" "$work/code"
 
-# --- Single names: a word of some specs/ or src/, a proof, a crate, one of its files, or an edit. Words of one letter are those
-# of session lines.
+# --- Single names: a word of some specs/ or src/, what a proof defines, a crate, one of its files, or an edit. Words of one
+# letter are those of session lines.
 grep -E '^[A-Za-z][A-Za-z0-9_-]+$' "$work/spans" > "$work/words_named"
 {
     grep -ohE '[A-Za-z][A-Za-z0-9_]*' crates/*/specs/*.antt crates/*/src/*.rt
-    grep -rohE '[a-z][a-z0-9]*(-[a-z0-9]+)+' crates/*/proofs
+    grep -rohE '^ *(pub )?[a-z][a-z0-9]*(_[a-z0-9]+)+ :' crates/*/proofs | grep -oE '[a-z][a-z0-9]*(_[a-z0-9]+)+'
     for path in crates/* crates/*/*; do
         basename "$path"
     done

@@ -5,7 +5,7 @@
 # Prints 'glass: N passed, M failed', and fails where M is not 0.
 set -u
 cd "$(dirname "$0")/.." || exit 1
-program=target/bin/glass
+program=crates/glass/out/glass
 suite=glass
 . tests/common.sh
 is_built "$program" glass

@@ -1,15 +1,16 @@
 #!/bin/sh
-# Runs target/bin/import on every tests/import/NAME.in and compares what it writes with NAME.out, and what it tells with
+# Runs the program `import` on every tests/import/NAME.in and compares what it writes with NAME.out, and what it tells with
 # NAME.errors or, where there is no such file, with nothing; and on the captures of examples/. Then on what no file can show: long
-# input, and standard input or output that is closed, full or cannot be read; and on what target/bin/capture makes of sessions.
+# input, and standard input or output that is closed, full or cannot be read; and on what the program `capture` makes of sessions.
 # Prints 'import: N passed, M failed', and fails where M is not 0.
 set -u
 cd "$(dirname "$0")/.." || exit 1
-program=target/bin/import
+program=crates/import/out/import
 suite=import
 . tests/common.sh
+capture=crates/capture/out/capture
 is_built "$program" import
-is_built target/bin/capture capture
+is_built "$capture" capture
 
 # A capture, the session that it must have, and what must be told of it.
 imports() {
@@ -74,7 +75,7 @@ same 'a closed pipe: nothing is told' "$work/errors" /dev/null
 # A session, captured and imported, is itself, but for its first wait; no later wait of it is 1.
 for name in hello notice_board pattern too_early accounts_before accounts_after pod_p11 pod_wires; do
     input=examples/$name.session
-    timeout 20 target/bin/capture < "$input" 2> /dev/null | timeout 20 "$program" > "$work/got"
+    timeout 20 "$capture" < "$input" 2> /dev/null | timeout 20 "$program" > "$work/got"
     sed '1s/[0-9]*$/0/' "$input" > "$work/want"
     same "$input, captured and imported"
 done

@@ -5,8 +5,8 @@
 # fails. Where cargo has no fmt or no clippy that is said too.
 set -eu
 root=$(cd "$(dirname "$0")/.." && pwd)
-program=$root/target/bin/session
-glass=$root/target/bin/glass
+program=$root/crates/session/out/session
+glass=$root/crates/glass/out/glass
 library=$root/target/staticlib/libinterface.a
 cargo=$(command -v cargo || echo "${HOME:-}/.cargo/bin/cargo")
 if [ ! -x "$cargo" ]; then
@@ -17,9 +17,9 @@ if [ ! -x "$cargo" ]; then
     echo "model: no cargo is found, so the independent model is not compared"
     exit 0
 fi
-[ -x "$program" ] || { echo "model: $program is not built: run 'rt check session' first" >&2; exit 1; }
-[ -x "$glass" ] || { echo "model: $glass is not built: run 'rt check glass' first" >&2; exit 1; }
-[ -f "$library" ] || { echo "model: $library is not built: run 'rt staticlib interface' first" >&2; exit 1; }
+[ -x "$program" ] || { echo "model: $program is not built: run 'tests/build.sh session' first" >&2; exit 1; }
+[ -x "$glass" ] || { echo "model: $glass is not built: run 'tests/build.sh glass' first" >&2; exit 1; }
+[ -f "$library" ] || { echo "model: $library is not built: run 'tests/build.sh interface' first" >&2; exit 1; }
 cd "$root/rust"
 
 # Has cargo this command? Where it has not, that and what is left out is said.

@@ -1,11 +1,11 @@
 #!/bin/sh
-# Runs target/bin/session on every tests/session/NAME.in and compares what it writes with NAME.out, and standard error with
+# Runs the program `session` on every tests/session/NAME.in and compares what it writes with NAME.out, and standard error with
 # NAME.errors where there is one; then on what no file can show: long input, input in pieces, and standard input or output that is
 # closed, full or cannot be read.
 # Prints 'session: N passed, M failed', and fails where M is not 0.
 set -u
 cd "$(dirname "$0")/.." || exit 1
-program=target/bin/session
+program=crates/session/out/session
 suite=session
 . tests/common.sh
 is_built "$program" session

@@ -8,10 +8,9 @@ cd "$(dirname "$0")/.." || exit 1
 root=$(pwd)
 suite=yaropesk
 . tests/common.sh
-is_built target/bin/session session
-is_built target/bin/glass glass
-is_built target/bin/capture capture
-is_built target/bin/import import
+for name in session glass capture import; do
+    is_built "crates/$name/out/$name" "$name"
+done
 
 # The script that is run.
 script=$root/yaropesk
@@ -211,24 +210,25 @@ same 'examples/README, the accounts' "$work/block"
 
 # --- Stand-ins. The same script over other programs: `session` is a shell that does what FILE says.
 tree=$work/tree
-mkdir -p "$tree/crates" "$tree/target/bin" "$work/kit" "$work/tmp"
+mkdir -p "$tree/crates/session/out" "$tree/crates/glass/out" "$work/kit" "$work/tmp"
 cp yaropesk README.md "$tree"
 # The crates of a tree that stays as it is, whatever is added to this one.
 cat > "$tree/crates.txt" << 'end'
 # NAME: what it depends on
 controller:
 dots: controller
-font_sheet: controller dots lines io libc
+font_sheet: controller dots lines
 planner: controller
-cuts: planner controller lines io libc
-vectors: controller dots lines io libc
+cuts: planner controller lines
+vectors: controller dots lines
 lines: controller
 player: controller lines
-session: controller lines player io libc
+session: controller lines player
 drawing: controller dots lines
-glass: controller dots lines player drawing check io os libc
+glass: controller dots lines player drawing check
+archive staticlib: lines
 end
-for name in $(sed -n 's/^\([a-z_]*\):.*/\1/p' "$tree/crates.txt") extra bare; do
+for name in $(sed -n 's/^\([a-z_]*\)[ :].*/\1/p' "$tree/crates.txt") extra bare; do
     mkdir -p "$tree/crates/$name/src"
 done
 for name in session glass bare; do
@@ -244,7 +244,7 @@ stand_in() {
     cat > "$1"
     chmod +x "$1"
 }
-stand_in "$tree/target/bin/session" << 'end'
+stand_in "$tree/crates/session/out/session" << 'end'
 #!/bin/sh
 exec sh
 end
@@ -300,6 +300,11 @@ touch -t 203102031200 "$tree/crates/extra/src/main.rt"
 run --version
 quiet '--version without git'
 wrote '--version without git' 'yaropesk 2031-02-03'
+mkdir "$tree/crates/extra/out"
+touch -t 203203041200 "$tree/crates/extra/out/extra"
+run --version
+wrote '--version without git beside a built file' 'yaropesk 2031-02-03'
+rm -r "$tree/crates/extra/out"
 touch -r crates.txt "$tree/crates/extra/src/main.rt"
 
 program << 'end'
@@ -366,7 +371,7 @@ is_there() {
 }
 
 # Standard input: closed, large from a file and from a pipe, and line by line.
-stand_in "$tree/target/bin/glass" << 'end'
+stand_in "$tree/crates/glass/out/glass" << 'end'
 #!/bin/sh
 exec cat "$@"
 end
@@ -426,15 +431,16 @@ if is_heard PIPE; then
     tidy 'a reader that has seen enough'
 fi
 
-# --- Proving and building, by a stand-in for rt that does what another file says, and notes its words.
+# --- Proving and building, by a stand-in for rt that does what another file says, and notes its words and the crate.
 stand_in "$work/kit/rt" << 'end'
 #!/bin/sh
-echo "$@" >> "$STAND/calls"
+crate=$(basename "$PWD")
+echo "$@ $crate" >> "$STAND/calls"
 . "$STAND/rt"
 end
 export STAND="$work"
 PATH=$work/kit:$PATH
-cp "$tree/target/bin/session" "$work/built"
+cp "$tree/crates/session/out/session" "$work/built"
 
 # What rt shall do in the next runs.
 rt_does() {
@@ -453,35 +459,58 @@ yaropesk: proving player (3 of 4)
 yaropesk: proving session (4 of 4)'
 echo 'echo written' > "$work/program"
 
-rm "$tree/target/bin/session"
+rm "$tree/crates/session/out/session"
 rt_does << 'end'
-[ "$2" != session ] || cp "$STAND/built" target/bin/session
+[ "$1" != run ] || cp "$STAND/built" out/session
 echo 'rt: this is nothing to tell'
 end
 run session "$work/program"
 ends_with 'a first use' 0
 told 'a first use' "$proving_session"
 wrote 'a first use' written
-called 'a first use' 'check controller
-check lines
-check player
-check session'
+called 'a first use' 'lib controller
+lib lines
+lib player
+run session'
 tidy 'a first use'
 run session "$work/program"
 quiet 'a second use'
 
-# Crates that need nothing of each other are proved together.
-rm "$tree/target/bin/glass"
+# What rt keeps beside is newer, and is nothing that was changed.
+sleep 0.05
+mkdir "$tree/crates/lines/out"
+touch "$tree/crates/lines/out/kept" "$tree/crates/session/out/kept"
+run session "$work/program"
+quiet 'a newer file that rt keeps'
+rm -r "$tree/crates/lines/out"
+
+# A program that rt has built ends on nothing as it likes.
+rm "$tree/crates/session/out/session"
 rt_does << 'end'
-[ "$2" != glass ] || cp "$STAND/built" target/bin/glass
+[ "$1" = run ] || exit 0
+cp "$STAND/built" out/session
+echo 'rt: running out/session; to give it other input, run that file yourself'
+exit 3
+end
+run session "$work/program"
+ends_with 'a program that fails on nothing' 0
+told 'a program that fails on nothing' "$proving_session"
+wrote 'a program that fails on nothing' written
+
+# Each crate is proved behind those that it needs.
+rm "$tree/crates/glass/out/glass"
+rt_does << 'end'
+[ "$1" != run ] || cp "$STAND/built" out/glass
 end
 run glass "$work/program"
-ends_with 'crates together' 0
-called 'crates together' 'check controller
-check dots lines
-check player drawing
-check glass'
-told 'crates together' 'yaropesk: proving controller (1 of 6)
+ends_with 'crates in their order' 0
+called 'crates in their order' 'lib controller
+lib dots
+lib lines
+lib player
+lib drawing
+run glass'
+told 'crates in their order' 'yaropesk: proving controller (1 of 6)
 yaropesk: proving dots (2 of 6)
 yaropesk: proving lines (3 of 6)
 yaropesk: proving player (4 of 6)
@@ -499,8 +528,8 @@ quiet 'no newer file'
 # One that is changed while it is proved is proved again.
 rt_does << 'end'
 sleep 0.05
-touch crates.txt
-[ "$2" != session ] || cp "$STAND/built" target/bin/session
+touch ../../crates.txt
+[ "$1" != run ] || cp "$STAND/built" out/session
 end
 touch "$tree/crates.txt"
 run session "$work/program"
@@ -508,16 +537,23 @@ rt_does < /dev/null
 run session "$work/program"
 told 'a file changed while it is proved' "$proving_session"
 
-rm "$tree/target/bin/session"
+rm "$tree/crates/session/out/session"
 run session "$work/program"
 ends_with 'a program that is proved and not there' 1
-[ "$(tail -n 1 "$work/errors")" = \
-    "yaropesk: session is proved, and $tree/target/bin/session is not there: remove $tree/target and start again" ]
+out=$tree/crates/session/out
+[ "$(tail -n 1 "$work/errors")" = "yaropesk: session is proved, and $out/session is not there: remove $out and start again" ]
 count 'a program that is proved and not there: told' $?
+rt_does << 'end'
+[ "$1" != run ]
+end
+run session "$work/program"
+ends_with 'a program whose own proof fails' 1
+told 'a program whose own proof fails' "$proving_session
+yaropesk: session is not proved"
 rt_does << 'end'
 echo 'rt: out'
 echo 'rt: errors' >&2
-[ "$2" != lines ]
+[ "$crate" != lines ]
 end
 run session "$work/program"
 ends_with 'a proof that fails' 1
@@ -593,9 +629,9 @@ end
 for pair in HUP:129 INT:130 TERM:143; do
     signal=${pair%:*}
     is_heard "$signal" || continue
-    rm -f "$tree/target/bin/session"
+    rm -f "$tree/crates/session/out/session"
     stopped 'stopped while it proves' "$signal" "${pair#*:}"
-    cp "$work/built" "$tree/target/bin/session"
+    cp "$work/built" "$tree/crates/session/out/session"
     stopped 'stopped while it runs' "$signal" "${pair#*:}"
 done
 

@@ -5,8 +5,7 @@ use crate::told::counted_far;
 use captures::import;
 
 // The session's text of a capture, into a buffer that is at least as long as it.
-#[unsafe(no_mangle)]
-pub extern "C" fn yaropesk_import(capture: &[u8], out: &mut [u8]) -> u64
+pub fn yaropesk_import(capture: &[u8], out: &mut [u8]) -> u64
     ensures { YaropeskImportPromise capture.now out.old result out.new }
 {
     let written = import(capture, out);

@@ -38,8 +38,7 @@ fn transfer_from(
 }
 
 // One bus transfer.
-#[unsafe(no_mangle)]
-pub extern "C" fn yaropesk_transfer(
+pub fn yaropesk_transfer(
     bytes: &mut [u8],
     memory: &mut [u8],
     kind: u8,
@@ -67,8 +66,7 @@ fn reset_from(bytes: &mut [u8], memory: &mut [u8]) -> u32
 }
 
 // Power on. Any 24 bytes will do for the record.
-#[unsafe(no_mangle)]
-pub extern "C" fn yaropesk_reset(bytes: &mut [u8], memory: &mut [u8]) -> u32
+pub fn yaropesk_reset(bytes: &mut [u8], memory: &mut [u8]) -> u32
     ensures { YaropeskResetPromise bytes.old memory.old result bytes.new memory.new }
 {
     if !is_record_long(bytes) {

@@ -1,5 +1,6 @@
-// The calls of the crates beneath for programs in C: numbers and byte slices only, a record as 24 bytes, a wish as 16. Each
-// answers every input, and returns the answer's number and 256 times the byte, count or length.
+// The calls of the crates beneath over numbers and byte slices only, a record as 24 bytes, a wish as 16, for programs in C, which
+// reach them through the crate `interface_c`. Each answers every input, and returns the answer's number and 256 times the byte,
+// count or length.
 #![tactic(auto)]
 
 mod capture_calls;

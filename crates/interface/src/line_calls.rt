@@ -10,8 +10,7 @@ use controller::{Answer, Sent, is_done, six_bytes};
 use lines::{Line, read_line, write_line};
 
 // The line of a transfer, into a buffer of at least 16 bytes.
-#[unsafe(no_mangle)]
-pub extern "C" fn yaropesk_write_line(kind: u8, byte: u8, wait: u32, out: &mut [u8]) -> u32
+pub fn yaropesk_write_line(kind: u8, byte: u8, wait: u32, out: &mut [u8]) -> u32
     ensures { YaropeskWriteLinePromise kind byte wait out.old result out.new }
 {
     let written = write_line(kind, byte, wait, out);
@@ -29,7 +28,7 @@ fn put_transfer(line: Line, out: &mut [u8])
         byte: line.byte,
         wait: line.wait,
     });
-    bytes::copy(&six, out);
+    out[..6].copy_from_slice(&six);
 }
 
 // The transfer of a line that was read, or the fault of one that was not.
@@ -49,8 +48,7 @@ fn store_line(line: Line, out: &mut [u8]) -> u32
 }
 
 // The line at the start of a text, as six bytes, or the offset of its fault.
-#[unsafe(no_mangle)]
-pub extern "C" fn yaropesk_read_line(text: &[u8], out: &mut [u8]) -> u32
+pub fn yaropesk_read_line(text: &[u8], out: &mut [u8]) -> u32
     ensures { YaropeskReadLinePromise text.now out.old result out.new }
 {
     let line = read_line(text);

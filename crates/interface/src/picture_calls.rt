@@ -29,8 +29,7 @@ fn picture_of(rec: Record, memory: &[u8], profile: Profile, lit: bool, out: &mut
 }
 
 // What the panel shows, five dots a byte. Any `lit` but 0 is the lit phase.
-#[unsafe(no_mangle)]
-pub extern "C" fn yaropesk_picture(
+pub fn yaropesk_picture(
     bytes: &[u8],
     memory: &[u8],
     profile: u8,

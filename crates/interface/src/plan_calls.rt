@@ -35,8 +35,7 @@ fn refuse_wish(marks: &[u8], values: &[u8]) -> u32
 }
 
 // The plan for a wish, six bytes a record, into a buffer of at least 2,808 bytes.
-#[unsafe(no_mangle)]
-pub extern "C" fn yaropesk_plan(wish: &[u8], marks: &[u8], values: &[u8], out: &mut [u8]) -> u32
+pub fn yaropesk_plan(wish: &[u8], marks: &[u8], values: &[u8], out: &mut [u8]) -> u32
     ensures { YaropeskPlanPromise wish.now marks.now values.now out.old result
         out.new }
 {

@@ -214,5 +214,5 @@ pub fn write_record(rec: Record, bytes: &mut [u8])
     ensures { bytes.new ≡ record_bytes rec }
 {
     let own = bytes_of(rec);
-    bytes::copy(&own, bytes);
+    bytes.copy_from_slice(&own);
 }
