@@ -8,10 +8,10 @@ ghost use Rattle.std.specs.Prelude.{◌≡◌, ◌+◌, ◌*◌, ◌≤◌, leng
 ghost use Rattle.controller.specs.declared.answers.Answer.TheVariants.{Done};
 
 use controller::{Frequency, is_in_range};
-use libc::STDOUT_FILENO;
 use lines::{Written, first};
 use options::asked_frequency;
 use player::{play, play_through};
+use std::io::Write;
 use telling::{
     INPUT, LIMIT, read_input, tell, tell_bad_line, tell_too_long, tell_unread, tell_unwritten,
 };
@@ -27,9 +27,11 @@ fn write_report(text: &[u8], frequency: Frequency, out: &mut [u8]) -> Written
     play(text, frequency, out)
 }
 
-fn print(text: &[u8]) {
-    if !io::write_all(STDOUT_FILENO, text) {
-        tell_unwritten(b"session");
+fn print(rt: HostRuntime, text: &[u8]) {
+    let mut output = rt.stdout();
+    let mut errors = rt.stderr();
+    if Write::write_all(&mut output, text).is_err() {
+        tell_unwritten(&mut errors, b"session");
     }
 }
 
@@ -47,43 +49,53 @@ fn ends_badly(report: &[u8]) -> bool {
 }
 
 // Tells of the bad line that ended a session.
-fn tell_end(text: &[u8], frequency: Frequency) {
+fn tell_end(rt: HostRuntime, text: &[u8], frequency: Frequency) {
+    let mut errors = rt.stderr();
     let standing = play_through(text, frequency, u64::MAX);
-    tell_bad_line(b"session", standing.number, text, standing.from);
+    tell_bad_line(
+        &mut errors,
+        b"session",
+        standing.number,
+        text,
+        standing.from,
+    );
 }
 
-fn report(text: &[u8], frequency: Frequency)
+fn report(rt: HostRuntime, text: &[u8], frequency: Frequency)
     requires { length text.now ≤ 65536 }
 {
     let mut out = [0u8; OUTPUT];
     let written = write_report(text, frequency, &mut out);
     let report = first(&out, written.length);
-    print(report);
+    print(rt, report);
     if ends_badly(report) {
-        tell_end(text, frequency);
+        tell_end(rt, text, frequency);
     }
 }
 
-fn main() {
-    let frequency = asked_frequency();
+fn main(rt: HostRuntime) {
+    let mut from = rt.stdin();
+    let mut errors = rt.stderr();
+    let frequency = asked_frequency(&rt);
     if !is_in_range(frequency) {
         tell(
+            &mut errors,
             b"session",
             b"these words cannot be followed. Allowed is --khz N, the oscillator's frequency, 190 to 350; without it 250.",
         );
         return;
     }
     let mut input = [0u8; INPUT];
-    let got = read_input(&mut input);
+    let got = read_input(&mut from, &mut input);
     if got.failed {
-        tell_unread(b"session", b"Nothing was played.");
+        tell_unread(&mut errors, b"session", b"Nothing was played.");
         return;
     }
     let length = got.length;
     if LIMIT < length {
-        print(b"too long\n");
-        tell_too_long(b"session", b"Nothing was played.");
+        print(rt, b"too long\n");
+        tell_too_long(&mut errors, b"session", b"Nothing was played.");
         return;
     }
-    report(first(&input, length), frequency);
+    report(rt, first(&input, length), frequency);
 }
