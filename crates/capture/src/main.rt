@@ -10,7 +10,8 @@ use controller::is_done;
 use lines::{Written, first, put_number, put_text, read_line};
 use std::io::Write;
 use telling::{
-    INPUT, LIMIT, read_input, tell, tell_bad_line, tell_too_long, tell_unread, tell_unwritten,
+    INPUT, LIMIT, is_failed, is_heard, read_input, send, tell, tell_bad_line, tell_too_long,
+    tell_unread, tell_unwritten,
 };
 
 // What the capture of the longest session wants: nine bytes for each byte of it, and 291 more.
@@ -109,8 +110,12 @@ fn show(rt: HostRuntime, text: &[u8])
         tell_bad_line(&mut errors, b"capture", seen.number, text, seen.from);
         return;
     }
-    if Write::write_all(&mut output, first(&out, written.length)).is_err() {
+    let sent = send(&mut output, first(&out, written.length));
+    if is_failed(sent) {
         tell_unwritten(&mut errors, b"capture");
+    }
+    if !is_heard(sent) {
+        return;
     }
     if 0 < seen.close {
         tell_close(&mut errors, seen);

@@ -11,9 +11,10 @@ use lines::{first, write_header, write_row};
 use options::{Options, are_good, panel_of, read_options};
 use player::{Standing, play_through};
 use refusals::tell_refusals;
-use std::io::{IsTerminal, Write};
+use std::io::IsTerminal;
 use telling::{
-    INPUT, LIMIT, read_input, tell, tell_bad_line, tell_too_long, tell_unread, tell_unwritten,
+    INPUT, LIMIT, Sent, is_failed, is_heard, is_whole, read_input, send, tell, tell_bad_line,
+    tell_too_long, tell_unread, tell_unwritten,
 };
 
 // More than any drawing takes.
@@ -46,23 +47,28 @@ fn tell_usage(rt: HostRuntime) {
 }
 
 // Writes all of a text, if it can.
-pub fn write_at(rt: HostRuntime, place: Place, text: &[u8]) -> bool {
+pub fn write_at(rt: HostRuntime, place: Place, text: &[u8]) -> Sent {
     let mut output = rt.stdout();
     let mut errors = rt.stderr();
     match place {
-        Place::Output => Write::write_all(&mut output, text).is_ok(),
-        Place::Errors => Write::write_all(&mut errors, text).is_ok(),
+        Place::Output => send(&mut output, text),
+        Place::Errors => send(&mut errors, text),
     }
 }
 
 // Writes all of a text, or tells that it could not.
-fn is_written(rt: HostRuntime, place: Place, text: &[u8]) -> bool {
+fn print(rt: HostRuntime, place: Place, text: &[u8]) -> Sent {
     let mut errors = rt.stderr();
-    if write_at(rt, place, text) {
-        return true;
+    let sent = write_at(rt, place, text);
+    if is_failed(sent) {
+        tell_unwritten(&mut errors, b"glass");
     }
-    tell_unwritten(&mut errors, b"glass");
-    false
+    sent
+}
+
+// The same, and whether it is written.
+fn is_written(rt: HostRuntime, place: Place, text: &[u8]) -> bool {
+    is_whole(print(rt, place, text))
 }
 
 // On a terminal block characters, which fit its width; elsewhere dots, which any program can read.
@@ -92,7 +98,8 @@ fn place_for_words(form: Form) -> Place {
 }
 
 // The bad line that ended a session, as the session program tells it: the header and its row, and words.
-fn tell_end(rt: HostRuntime, form: Form, standing: Standing, text: &[u8]) {
+// Whether the run goes on: not where nobody reads these any more.
+fn tell_end(rt: HostRuntime, form: Form, standing: Standing, text: &[u8]) -> bool {
     let mut errors = rt.stderr();
     let mut head = [0u8; 20];
     let mut row = [0u8; 42];
@@ -101,9 +108,13 @@ fn tell_end(rt: HostRuntime, form: Form, standing: Standing, text: &[u8]) {
     let line = standing.number;
     write_header(&mut head);
     let written = write_row(line, number(answer), 0, standing.rec.busy, &mut row);
-    write_at(rt, place, &head);
-    write_at(rt, place, first(&row, written.length));
-    tell_bad_line(&mut errors, b"glass", line, text, standing.from);
+    if !is_heard(write_at(rt, place, &head)) {
+        return false;
+    }
+    if !is_heard(write_at(rt, place, first(&row, written.length))) {
+        return false;
+    }
+    is_heard(tell_bad_line(&mut errors, b"glass", line, text, standing.from))
 }
 
 // Draws the panel in the lit phase, and tells of refusals; a size that no panel has is told with what is allowed.
@@ -135,7 +146,9 @@ fn play_and_show(rt: HostRuntime, options: Options, text: &[u8]) {
     let answer = standing.answer;
     if number(answer) != 0 {
         let form = options.form;
-        tell_end(rt, form, standing, text);
+        if !tell_end(rt, form, standing, text) {
+            return;
+        }
     }
     show(rt, options, standing);
 }
@@ -157,7 +170,9 @@ fn main(rt: HostRuntime) {
     let length = got.length;
     if LIMIT < length {
         let form = options.form;
-        is_written(rt, place_for_words(form), b"too long\n");
+        if !is_heard(print(rt, place_for_words(form), b"too long\n")) {
+            return;
+        }
         tell_too_long(&mut errors, b"glass", b"Nothing was played.");
         return;
     }

@@ -8,8 +8,7 @@ use captures::import;
 use controller::is_done;
 use explain::tell_refusal;
 use lines::first;
-use std::io::Write;
-use telling::{read_input, tell, tell_unread, tell_unwritten};
+use telling::{is_failed, read_input, send, tell, tell_unread, tell_unwritten};
 
 // The longest capture, and one byte more, by which a longer one shows.
 const LIMIT: usize = 2_097_152;
@@ -22,7 +21,8 @@ const OUTPUT: usize = LIMIT / 3 * 4 + 16;
 fn print(rt: HostRuntime, text: &[u8]) {
     let mut output = rt.stdout();
     let mut errors = rt.stderr();
-    if Write::write_all(&mut output, text).is_err() {
+    let sent = send(&mut output, text);
+    if is_failed(sent) {
         tell_unwritten(&mut errors, b"import");
     }
 }

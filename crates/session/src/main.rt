@@ -11,9 +11,9 @@ use controller::{Frequency, is_in_range};
 use lines::{Written, first};
 use options::asked_frequency;
 use player::{play, play_through};
-use std::io::Write;
 use telling::{
-    INPUT, LIMIT, read_input, tell, tell_bad_line, tell_too_long, tell_unread, tell_unwritten,
+    INPUT, LIMIT, is_failed, is_heard, read_input, send, tell, tell_bad_line, tell_too_long,
+    tell_unread, tell_unwritten,
 };
 
 // What the report of the longest session wants: six bytes for each byte of it, and 62 more.
@@ -27,12 +27,15 @@ fn write_report(text: &[u8], frequency: Frequency, out: &mut [u8]) -> Written
     play(text, frequency, out)
 }
 
-fn print(rt: HostRuntime, text: &[u8]) {
+// Prints a text, or tells that it could not. Whether the run goes on: not where nobody reads it any more.
+fn print(rt: HostRuntime, text: &[u8]) -> bool {
     let mut output = rt.stdout();
     let mut errors = rt.stderr();
-    if Write::write_all(&mut output, text).is_err() {
+    let sent = send(&mut output, text);
+    if is_failed(sent) {
         tell_unwritten(&mut errors, b"session");
     }
+    is_heard(sent)
 }
 
 // Whether a report ends with the row of a bad line: its answer alone has two digits, so that six bytes before the row's last tab
@@ -67,7 +70,9 @@ fn report(rt: HostRuntime, text: &[u8], frequency: Frequency)
     let mut out = [0u8; OUTPUT];
     let written = write_report(text, frequency, &mut out);
     let report = first(&out, written.length);
-    print(rt, report);
+    if !print(rt, report) {
+        return;
+    }
     if ends_badly(report) {
         tell_end(rt, text, frequency);
     }
@@ -93,7 +98,9 @@ fn main(rt: HostRuntime) {
     }
     let length = got.length;
     if LIMIT < length {
-        print(rt, b"too long\n");
+        if !print(rt, b"too long\n") {
+            return;
+        }
         tell_too_long(&mut errors, b"session", b"Nothing was played.");
         return;
     }

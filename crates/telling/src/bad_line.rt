@@ -1,4 +1,5 @@
 // A bad line, told on standard error: its number and column, what may stand there, and a hint where the byte there gives one.
+use crate::output::{Sent, send};
 use crate::words::put_name;
 use controller::number;
 use lines::{first, put_byte, put_number, put_text, read_line};
@@ -104,7 +105,7 @@ pub fn tell_bad_line<W: Write>(
     line: u64,
     text: &[u8],
     from: usize,
-) {
+) -> Sent {
     let rest = rest_of(text, from);
     let read = read_line(rest);
     let told = read.answer;
@@ -116,5 +117,5 @@ pub fn tell_bad_line<W: Write>(
     let ruled = put_rule(&mut out, placed, answer);
     let caused = put_cause(&mut out, ruled, answer, offset, rest);
     let ended = put_byte(&mut out, caused, b'\n');
-    let _ = errors.write_all(first(&out, ended));
+    send(errors, first(&out, ended))
 }
