@@ -7,10 +7,11 @@ ghost use Rattle.lines.specs.Session.{session_of};
 
 use captures::capture;
 use controller::is_done;
-use libc::STDOUT_FILENO;
 use lines::{Written, first, put_number, put_text, read_line};
+use std::io::Write;
 use telling::{
-    INPUT, LIMIT, read_input, tell, tell_bad_line, tell_too_long, tell_unread, tell_unwritten,
+    INPUT, LIMIT, is_failed, is_heard, read_input, send, tell, tell_bad_line, tell_too_long,
+    tell_unread, tell_unwritten,
 };
 
 // What the capture of the longest session wants: nine bytes for each byte of it, and 291 more.
@@ -72,7 +73,7 @@ fn look(text: &[u8]) -> Seen {
 }
 
 // The pulses that run into the one before them: the first one's line and wait, and how many there are.
-fn tell_close(seen: Seen) {
+fn tell_close<W: Write>(errors: &mut W, seen: Seen) {
     let mut words = [0u8; 256];
     let called = put_text(&mut words, 0, b"line ");
     let numbered = put_number(&mut words, called, seen.first);
@@ -85,7 +86,7 @@ fn tell_close(seen: Seen) {
     );
     let counted = put_number(&mut words, told, seen.close);
     let ended = put_text(&mut words, counted, b".");
-    tell(b"capture", first(&words, ended));
+    tell(errors, b"capture", first(&words, ended));
 }
 
 // The capture, into a buffer that always serves: it is refused for a bad line alone.
@@ -96,36 +97,44 @@ fn write_capture(text: &[u8], out: &mut [u8]) -> Written
     capture(text, out)
 }
 
-fn show(text: &[u8])
+fn show(rt: HostRuntime, text: &[u8])
     requires { length text.now ≤ 65536 }
 {
+    let mut output = rt.stdout();
+    let mut errors = rt.stderr();
     let mut out = [0u8; OUTPUT];
     let seen = look(text);
     let written = write_capture(text, &mut out);
     let answer = written.answer;
     if !is_done(answer) {
-        tell_bad_line(b"capture", seen.number, text, seen.from);
+        tell_bad_line(&mut errors, b"capture", seen.number, text, seen.from);
         return;
     }
-    if !io::write_all(STDOUT_FILENO, first(&out, written.length)) {
-        tell_unwritten(b"capture");
+    let sent = send(&mut output, first(&out, written.length));
+    if is_failed(sent) {
+        tell_unwritten(&mut errors, b"capture");
+    }
+    if !is_heard(sent) {
+        return;
     }
     if 0 < seen.close {
-        tell_close(seen);
+        tell_close(&mut errors, seen);
     }
 }
 
-fn main() {
+fn main(rt: HostRuntime) {
+    let mut from = rt.stdin();
+    let mut errors = rt.stderr();
     let mut input = [0u8; INPUT];
-    let got = read_input(&mut input);
+    let got = read_input(&mut from, &mut input);
     if got.failed {
-        tell_unread(b"capture", b"Nothing was written.");
+        tell_unread(&mut errors, b"capture", b"Nothing was written.");
         return;
     }
     let length = got.length;
     if LIMIT < length {
-        tell_too_long(b"capture", b"Nothing was written.");
+        tell_too_long(&mut errors, b"capture", b"Nothing was written.");
         return;
     }
-    show(first(&input, length));
+    show(rt, first(&input, length));
 }

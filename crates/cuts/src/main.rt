@@ -14,7 +14,6 @@ mod verdict;
 mod wishes;
 
 use controller::Frequency;
-use libc::STDOUT_FILENO;
 use lines::first;
 use report::{put_frequencies, put_total, put_wish, put_wrong};
 use runs::{Run, lay_out, play_run, records_of};
@@ -135,11 +134,11 @@ fn play_wishes(out: &mut [u8; 2048], tally: Tally) -> Tally {
     next
 }
 
-fn print(out: &[u8; 2048], length: usize) {
-    io::write_all(STDOUT_FILENO, first(out, length));
+fn print<P: Print>(rt: &P, out: &[u8; 2048], length: usize) {
+    let _ = rt.write_all(first(out, length));
 }
 
-fn main() {
+fn main(rt: HostRuntime) {
     let mut out = [0u8; 2048];
     let nothing = Tally {
         at: 0,
@@ -150,5 +149,5 @@ fn main() {
     let begun = put_frequencies(&mut out, nothing);
     let total = play_wishes(&mut out, begun);
     let told = put_total(&mut out, total);
-    print(&out, told.at);
+    print(&rt, &out, told.at);
 }

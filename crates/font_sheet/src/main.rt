@@ -5,7 +5,6 @@
 ghost use Rattle.std.specs.Prelude.{◌<◌};
 
 use controller::{Frequency, Record, after_reset};
-use libc::STDOUT_FILENO;
 use lines::{first, put_byte, put_hex, put_text};
 
 // More than the sheet takes.
@@ -138,8 +137,8 @@ fn put_sheet(out: &mut [u8]) -> usize {
     next
 }
 
-fn main() {
+fn main(rt: HostRuntime) {
     let mut out = [0u8; OUTPUT];
     let length = put_sheet(&mut out);
-    io::write_all(STDOUT_FILENO, first(&out, length));
+    let _ = rt.write_all(first(&out, length));
 }

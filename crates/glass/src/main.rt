@@ -7,45 +7,73 @@ mod refusals;
 
 use controller::number;
 use drawing::{Form, draw};
-use libc::{STDERR_FILENO, STDOUT_FILENO};
 use lines::{first, write_header, write_row};
 use options::{Options, are_good, panel_of, read_options};
 use player::{Standing, play_through};
 use refusals::tell_refusals;
+use std::io::IsTerminal;
 use telling::{
-    INPUT, LIMIT, read_input, tell, tell_bad_line, tell_too_long, tell_unread, tell_unwritten,
+    INPUT, LIMIT, Sent, is_failed, is_heard, is_whole, read_input, send, tell, tell_bad_line,
+    tell_too_long, tell_unread, tell_unwritten,
 };
 
 // More than any drawing takes.
 const OUTPUT: usize = 65_536;
 
-fn tell_usage() {
+// Where something is written.
+#[derive(Clone, Copy)]
+pub enum Place {
+    Output,
+    Errors,
+}
+
+fn tell_usage(rt: HostRuntime) {
+    let mut errors = rt.stderr();
     tell(
+        &mut errors,
         b"glass",
         b"these words cannot be followed. Allowed are COLUMNS LINES (1 to 40, 1 or 2; 20 4; without them 16 2) or --divided,",
     );
     tell(
+        &mut errors,
         b"glass",
         b"--until TRANSFERS (0 to 99999), --khz N (190 to 350; without it 250)",
     );
     tell(
+        &mut errors,
         b"glass",
         b"and one of --dots, --blocks, --text, --cells and --pbm",
     );
 }
 
-// Writes all of a text, or tells that it could not.
-fn is_written(place: i32, text: &[u8]) -> bool {
-    if io::write_all(place, text) {
-        return true;
+// Writes all of a text, if it can.
+pub fn write_at(rt: HostRuntime, place: Place, text: &[u8]) -> Sent {
+    let mut output = rt.stdout();
+    let mut errors = rt.stderr();
+    match place {
+        Place::Output => send(&mut output, text),
+        Place::Errors => send(&mut errors, text),
     }
-    tell_unwritten(b"glass");
-    false
+}
+
+// Writes all of a text, or tells that it could not.
+fn print(rt: HostRuntime, place: Place, text: &[u8]) -> Sent {
+    let mut errors = rt.stderr();
+    let sent = write_at(rt, place, text);
+    if is_failed(sent) {
+        tell_unwritten(&mut errors, b"glass");
+    }
+    sent
+}
+
+// The same, and whether it is written.
+fn is_written(rt: HostRuntime, place: Place, text: &[u8]) -> bool {
+    is_whole(print(rt, place, text))
 }
 
 // On a terminal block characters, which fit its width; elsewhere dots, which any program can read.
-fn usual_form() -> Form {
-    if libc::isatty(STDOUT_FILENO) == 1 {
+fn usual_form(rt: HostRuntime) -> Form {
+    if rt.stdout().is_terminal() {
         return Form::Blocks;
     }
     Form::Dots
@@ -62,15 +90,17 @@ fn is_bitmap(form: Form) -> bool {
 }
 
 // A bitmap is to be alone on standard output, so that a viewer can read it.
-fn place_for_words(form: Form) -> i32 {
+fn place_for_words(form: Form) -> Place {
     if is_bitmap(form) {
-        return STDERR_FILENO;
+        return Place::Errors;
     }
-    STDOUT_FILENO
+    Place::Output
 }
 
 // The bad line that ended a session, as the session program tells it: the header and its row, and words.
-fn tell_end(form: Form, standing: Standing, text: &[u8]) {
+// Whether the run goes on: not where nobody reads these any more.
+fn tell_end(rt: HostRuntime, form: Form, standing: Standing, text: &[u8]) -> bool {
+    let mut errors = rt.stderr();
     let mut head = [0u8; 20];
     let mut row = [0u8; 42];
     let place = place_for_words(form);
@@ -78,13 +108,17 @@ fn tell_end(form: Form, standing: Standing, text: &[u8]) {
     let line = standing.number;
     write_header(&mut head);
     let written = write_row(line, number(answer), 0, standing.rec.busy, &mut row);
-    io::write_all(place, &head);
-    io::write_all(place, first(&row, written.length));
-    tell_bad_line(b"glass", line, text, standing.from);
+    if !is_heard(write_at(rt, place, &head)) {
+        return false;
+    }
+    if !is_heard(write_at(rt, place, first(&row, written.length))) {
+        return false;
+    }
+    is_heard(tell_bad_line(&mut errors, b"glass", line, text, standing.from))
 }
 
 // Draws the panel in the lit phase, and tells of refusals; a size that no panel has is told with what is allowed.
-fn show(options: Options, standing: Standing) {
+fn show(rt: HostRuntime, options: Options, standing: Standing) {
     let mut out = [0u8; OUTPUT];
     let form = options.form;
     let rec = standing.rec;
@@ -93,48 +127,54 @@ fn show(options: Options, standing: Standing) {
     let drawn = draw(form, rec, &memory, panel, true, &mut out);
     let answer = drawn.answer;
     if number(answer) != 0 {
-        tell_usage();
+        tell_usage(rt);
         return;
     }
-    if !is_written(STDOUT_FILENO, first(&out, drawn.length)) {
+    if !is_written(rt, Place::Output, first(&out, drawn.length)) {
         return;
     }
     if is_bitmap(form) && standing.refusals == 0 {
         return;
     }
-    tell_refusals(place_for_words(form), standing);
+    tell_refusals(rt, place_for_words(form), standing);
 }
 
 // Plays a session, tells of a bad line, and draws what was played so far.
-fn play_and_show(options: Options, text: &[u8]) {
+fn play_and_show(rt: HostRuntime, options: Options, text: &[u8]) {
     let frequency = options.frequency;
     let standing = play_through(text, frequency, options.until);
     let answer = standing.answer;
     if number(answer) != 0 {
         let form = options.form;
-        tell_end(form, standing, text);
+        if !tell_end(rt, form, standing, text) {
+            return;
+        }
     }
-    show(options, standing);
+    show(rt, options, standing);
 }
 
-fn main() {
-    let options = read_options(usual_form());
+fn main(rt: HostRuntime) {
+    let mut from = rt.stdin();
+    let mut errors = rt.stderr();
+    let options = read_options(&rt, usual_form(rt));
     if !are_good(options) {
-        tell_usage();
+        tell_usage(rt);
         return;
     }
     let mut input = [0u8; INPUT];
-    let got = read_input(&mut input);
+    let got = read_input(&mut from, &mut input);
     if got.failed {
-        tell_unread(b"glass", b"Nothing was played.");
+        tell_unread(&mut errors, b"glass", b"Nothing was played.");
         return;
     }
     let length = got.length;
     if LIMIT < length {
         let form = options.form;
-        is_written(place_for_words(form), b"too long\n");
-        tell_too_long(b"glass", b"Nothing was played.");
+        if !is_heard(print(rt, place_for_words(form), b"too long\n")) {
+            return;
+        }
+        tell_too_long(&mut errors, b"glass", b"Nothing was played.");
         return;
     }
-    play_and_show(options, first(&input, length));
+    play_and_show(rt, options, first(&input, length));
 }

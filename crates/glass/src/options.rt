@@ -1,10 +1,11 @@
 // What is asked for on the command line: the panel, the form of the drawing, the oscillator's frequency, and how many
 // transfers are played.
-use check::same;
 use controller::{Frequency, is_in_range};
 use dots::{Profile, Size};
 use drawing::Form;
 use lines::three_digits;
+use std::env::Env;
+use telling::{put_word, word_count};
 
 #[derive(Clone, Copy)]
 pub struct Options {
@@ -118,28 +119,28 @@ fn number_of(text: &[u8]) -> Word {
 }
 
 fn word_of(text: &[u8]) -> Word {
-    if same(text, b"--dots") {
+    if text == b"--dots".as_slice() {
         return Word::Form(Form::Dots);
     }
-    if same(text, b"--blocks") {
+    if text == b"--blocks".as_slice() {
         return Word::Form(Form::Blocks);
     }
-    if same(text, b"--text") {
+    if text == b"--text".as_slice() {
         return Word::Form(Form::Letters);
     }
-    if same(text, b"--cells") {
+    if text == b"--cells".as_slice() {
         return Word::Form(Form::Cells);
     }
-    if same(text, b"--pbm") {
+    if text == b"--pbm".as_slice() {
         return Word::Form(Form::Bitmap);
     }
-    if same(text, b"--divided") {
+    if text == b"--divided".as_slice() {
         return Word::Divided;
     }
-    if same(text, b"--until") {
+    if text == b"--until".as_slice() {
         return Word::Until;
     }
-    if same(text, b"--khz") {
+    if text == b"--khz".as_slice() {
         return Word::Khz;
     }
     number_of(text)
@@ -245,9 +246,9 @@ fn with_frequency(options: Options, khz: u16) -> Options {
 }
 
 // The options with a word of the command line by its number. One that is longer than any that is known comes as an empty one.
-fn with_word_at(options: Options, at: usize) -> Options {
+fn with_word_at<E: Env>(env: &E, options: Options, at: usize) -> Options {
     let mut text = [0u8; 9];
-    let length = os::arg(at, &mut text);
+    let length = put_word(env, at, &mut text);
     let awaited = options.awaited;
     match awaited {
         Awaited::Nothing => with_word(options, word_of(&text[..length])),
@@ -257,7 +258,7 @@ fn with_word_at(options: Options, at: usize) -> Options {
 }
 
 // The words of the command line in turn; where they ask for no form it is the usual one.
-pub fn read_options(usual: Form) -> Options {
+pub fn read_options<E: Env>(env: &E, usual: Form) -> Options {
     let mut options = Options {
         form: usual,
         formed: false,
@@ -272,10 +273,10 @@ pub fn read_options(usual: Form) -> Options {
         awaited: Awaited::Nothing,
         understood: true,
     };
-    let count = os::arg_count();
+    let count = word_count(env);
     let mut at = 1;
     while at < count {
-        let next = with_word_at(options, at);
+        let next = with_word_at(env, options, at);
         options = next;
         at += 1;
     }

@@ -1,4 +1,5 @@
 // What is told under a drawing: how many transfers were played and refused, and the first refused one.
+use crate::{Place, write_at};
 use lines::{first, put_answer, put_byte, put_number, put_text};
 use player::Standing;
 
@@ -37,10 +38,10 @@ fn put_refused(out: &mut [u8], at: usize, standing: Standing) -> usize {
     put_first(out, at, standing)
 }
 
-pub fn tell_refusals(place: i32, standing: Standing) {
+pub fn tell_refusals(rt: HostRuntime, place: Place, standing: Standing) {
     let mut out = [0u8; LONGEST];
     let counted = put_played(&mut out, played(standing.number));
     let refused = put_refused(&mut out, counted, standing);
     let ended = put_byte(&mut out, refused, b'\n');
-    io::write_all(place, first(&out, ended));
+    write_at(rt, place, first(&out, ended));
 }

@@ -8,12 +8,12 @@ ghost use Rattle.std.specs.Prelude.{◌≡◌, ◌+◌, ◌*◌, ◌≤◌, leng
 ghost use Rattle.controller.specs.declared.answers.Answer.TheVariants.{Done};
 
 use controller::{Frequency, is_in_range};
-use libc::STDOUT_FILENO;
 use lines::{Written, first};
 use options::asked_frequency;
 use player::{play, play_through};
 use telling::{
-    INPUT, LIMIT, read_input, tell, tell_bad_line, tell_too_long, tell_unread, tell_unwritten,
+    INPUT, LIMIT, is_failed, is_heard, read_input, send, tell, tell_bad_line, tell_too_long,
+    tell_unread, tell_unwritten,
 };
 
 // What the report of the longest session wants: six bytes for each byte of it, and 62 more.
@@ -27,10 +27,15 @@ fn write_report(text: &[u8], frequency: Frequency, out: &mut [u8]) -> Written
     play(text, frequency, out)
 }
 
-fn print(text: &[u8]) {
-    if !io::write_all(STDOUT_FILENO, text) {
-        tell_unwritten(b"session");
+// Prints a text, or tells that it could not. Whether the run goes on: not where nobody reads it any more.
+fn print(rt: HostRuntime, text: &[u8]) -> bool {
+    let mut output = rt.stdout();
+    let mut errors = rt.stderr();
+    let sent = send(&mut output, text);
+    if is_failed(sent) {
+        tell_unwritten(&mut errors, b"session");
     }
+    is_heard(sent)
 }
 
 // Whether a report ends with the row of a bad line: its answer alone has two digits, so that six bytes before the row's last tab
@@ -47,43 +52,57 @@ fn ends_badly(report: &[u8]) -> bool {
 }
 
 // Tells of the bad line that ended a session.
-fn tell_end(text: &[u8], frequency: Frequency) {
+fn tell_end(rt: HostRuntime, text: &[u8], frequency: Frequency) {
+    let mut errors = rt.stderr();
     let standing = play_through(text, frequency, u64::MAX);
-    tell_bad_line(b"session", standing.number, text, standing.from);
+    tell_bad_line(
+        &mut errors,
+        b"session",
+        standing.number,
+        text,
+        standing.from,
+    );
 }
 
-fn report(text: &[u8], frequency: Frequency)
+fn report(rt: HostRuntime, text: &[u8], frequency: Frequency)
     requires { length text.now ≤ 65536 }
 {
     let mut out = [0u8; OUTPUT];
     let written = write_report(text, frequency, &mut out);
     let report = first(&out, written.length);
-    print(report);
+    if !print(rt, report) {
+        return;
+    }
     if ends_badly(report) {
-        tell_end(text, frequency);
+        tell_end(rt, text, frequency);
     }
 }
 
-fn main() {
-    let frequency = asked_frequency();
+fn main(rt: HostRuntime) {
+    let mut from = rt.stdin();
+    let mut errors = rt.stderr();
+    let frequency = asked_frequency(&rt);
     if !is_in_range(frequency) {
         tell(
+            &mut errors,
             b"session",
             b"these words cannot be followed. Allowed is --khz N, the oscillator's frequency, 190 to 350; without it 250.",
         );
         return;
     }
     let mut input = [0u8; INPUT];
-    let got = read_input(&mut input);
+    let got = read_input(&mut from, &mut input);
     if got.failed {
-        tell_unread(b"session", b"Nothing was played.");
+        tell_unread(&mut errors, b"session", b"Nothing was played.");
         return;
     }
     let length = got.length;
     if LIMIT < length {
-        print(b"too long\n");
-        tell_too_long(b"session", b"Nothing was played.");
+        if !print(rt, b"too long\n") {
+            return;
+        }
+        tell_too_long(&mut errors, b"session", b"Nothing was played.");
         return;
     }
-    report(first(&input, length), frequency);
+    report(rt, first(&input, length), frequency);
 }

@@ -1,8 +1,9 @@
 // A bad line, told on standard error: its number and column, what may stand there, and a hint where the byte there gives one.
+use crate::output::{Sent, send};
 use crate::words::put_name;
 use controller::number;
-use libc::STDERR_FILENO;
 use lines::{first, put_byte, put_number, put_text, read_line};
+use std::io::Write;
 
 // More than any of these takes.
 const OUTPUT: usize = 512;
@@ -98,7 +99,13 @@ fn put_cause(out: &mut [u8], at: usize, answer: u8, offset: usize, rest: &[u8]) 
 }
 
 // The bad line of this number that begins at this place of a text.
-pub fn tell_bad_line(program: &[u8], line: u64, text: &[u8], from: usize) {
+pub fn tell_bad_line<W: Write>(
+    errors: &mut W,
+    program: &[u8],
+    line: u64,
+    text: &[u8],
+    from: usize,
+) -> Sent {
     let rest = rest_of(text, from);
     let read = read_line(rest);
     let told = read.answer;
@@ -110,5 +117,5 @@ pub fn tell_bad_line(program: &[u8], line: u64, text: &[u8], from: usize) {
     let ruled = put_rule(&mut out, placed, answer);
     let caused = put_cause(&mut out, ruled, answer, offset, rest);
     let ended = put_byte(&mut out, caused, b'\n');
-    io::write_all(STDERR_FILENO, first(&out, ended));
+    send(errors, first(&out, ended))
 }

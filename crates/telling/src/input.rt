@@ -1,5 +1,5 @@
 // Reading standard input.
-use libc::STDIN_FILENO;
+use std::io::Read;
 
 // What was read: whether a read failed, and how many bytes stand at the start of the buffer.
 #[derive(Clone, Copy)]
@@ -8,18 +8,17 @@ pub struct Input {
     pub length: usize,
 }
 
-// Reads until the input ends, a read fails or the buffer is full. The kit's `read_full` does not tell an end from a failure.
-pub fn read_input(input: &mut [u8]) -> Input {
+// Reads until the input ends, a read fails or the buffer is full. std's `read_to_end` needs memory of its own, and its `read_exact`
+// does not tell how much came before the end.
+pub fn read_input<R: Read>(from: &mut R, input: &mut [u8]) -> Input {
     let mut length = 0;
     while length < input.len() {
-        let got = libc::read(STDIN_FILENO, &mut input[length..]);
-        if got < 0 {
+        let Ok(more) = from.read(&mut input[length..]) else {
             return Input {
                 failed: true,
                 length,
             };
-        }
-        let more = io::count(got, &input[length..]);
+        };
         if more == 0 {
             break;
         }

@@ -1,12 +1,17 @@
-// What the programs share: standard input read to its end, and what ended or spoilt a run told on standard error in words.
+// What the programs share: standard input read to its end, the words of the command line, and what ended or spoilt a run told on
+// standard error in words.
 #![tactic(auto)]
 
 mod bad_line;
+mod command;
 mod input;
+mod output;
 mod words;
 
 pub use bad_line::tell_bad_line;
+pub use command::{put_word, word_count};
 pub use input::{Input, read_input};
+pub use output::{Sent, is_failed, is_heard, is_whole, send};
 pub use words::{tell, tell_too_long, tell_unread, tell_unwritten};
 
 // The longest session.

@@ -1,6 +1,6 @@
 // What is told on standard error. Where even that cannot be written, there is nobody left to tell.
-use libc::STDERR_FILENO;
 use lines::{first, put_byte, put_text};
+use std::io::Write;
 
 // More than any of these takes.
 const OUTPUT: usize = 512;
@@ -12,28 +12,29 @@ pub fn put_name(out: &mut [u8], program: &[u8]) -> usize {
 }
 
 // A program's name and words, as one line.
-pub fn tell(program: &[u8], words: &[u8]) {
+pub fn tell<W: Write>(errors: &mut W, program: &[u8], words: &[u8]) {
     let mut out = [0u8; OUTPUT];
     let named = put_name(&mut out, program);
     let told = put_text(&mut out, named, words);
     let ended = put_byte(&mut out, told, b'\n');
-    io::write_all(STDERR_FILENO, first(&out, ended));
+    let _ = errors.write_all(first(&out, ended));
 }
 
 // The same with what became of the run behind the words, as `Nothing was played.`
-fn tell_end(program: &[u8], words: &[u8], left: &[u8]) {
+fn tell_end<W: Write>(errors: &mut W, program: &[u8], words: &[u8], left: &[u8]) {
     let mut out = [0u8; OUTPUT];
     let named = put_name(&mut out, program);
     let told = put_text(&mut out, named, words);
     let parted = put_byte(&mut out, told, b' ');
     let closed = put_text(&mut out, parted, left);
     let ended = put_byte(&mut out, closed, b'\n');
-    io::write_all(STDERR_FILENO, first(&out, ended));
+    let _ = errors.write_all(first(&out, ended));
 }
 
 // A session longer than the limit, and what became of the run.
-pub fn tell_too_long(program: &[u8], left: &[u8]) {
+pub fn tell_too_long<W: Write>(errors: &mut W, program: &[u8], left: &[u8]) {
     tell_end(
+        errors,
         program,
         b"the session is longer than 65,536 bytes, the most that is taken.",
         left,
@@ -41,8 +42,9 @@ pub fn tell_too_long(program: &[u8], left: &[u8]) {
 }
 
 // A read of standard input that failed, so that what was read before may end anywhere, and what became of the run.
-pub fn tell_unread(program: &[u8], left: &[u8]) {
+pub fn tell_unread<W: Write>(errors: &mut W, program: &[u8], left: &[u8]) {
     tell_end(
+        errors,
         program,
         b"standard input could not be read to its end.",
         left,
@@ -50,8 +52,9 @@ pub fn tell_unread(program: &[u8], left: &[u8]) {
 }
 
 // A write to standard output that failed.
-pub fn tell_unwritten(program: &[u8]) {
+pub fn tell_unwritten<W: Write>(errors: &mut W, program: &[u8]) {
     tell_end(
+        errors,
         program,
         b"standard output could not be written.",
         b"What stands there is not whole.",

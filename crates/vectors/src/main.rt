@@ -15,7 +15,6 @@ mod row;
 mod shapes;
 mod text;
 
-use libc::STDOUT_FILENO;
 use lines::first;
 use report::{Tally, put_total};
 use shapes::shapes;
@@ -35,8 +34,8 @@ fn play_documents(out: &mut [u8]) -> Tally {
 }
 
 // The report is gathered and written once. The buffer holds it even where every row differs.
-fn main() {
+fn main(rt: HostRuntime) {
     let mut out = [0u8; 65536];
     let total = play_documents(&mut out);
-    io::write_all(STDOUT_FILENO, first(&out, total.at));
+    let _ = rt.write_all(first(&out, total.at));
 }

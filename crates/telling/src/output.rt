@@ -1,0 +1,62 @@
+// Writing a text, and what became of it.
+ghost use Rattle.std.specs.Prelude.{◌≡◌};
+ghost use Rattle.std.specs.Io.KnownBytes.{Appends};
+ghost use Rattle.telling.specs.declared.output.Sent.TheVariants.{Whole};
+
+use std::io::{ErrorKind, Write};
+
+#[derive(Clone, Copy)]
+pub enum Sent {
+    // All of it was written.
+    Whole,
+    // A write failed, so that some of it may be missing.
+    Failed,
+    // Nobody reads the pipe any more: there is nobody left to write to, and a program ends at once, without a word.
+    Unheard,
+}
+
+// Writes all of a text.
+pub fn send<W: Write>(to: &mut W, text: &[u8]) -> Sent
+    ensures { result ≡ Whole → Appends (W.contents to.old) (W.contents to.new) text.now }
+{
+    match to.write_all(text) {
+        Ok(()) => Sent::Whole,
+        Err(error) => what_failed(error.kind()),
+    }
+}
+
+fn what_failed(kind: ErrorKind) -> Sent
+    ensures { result ≡ Whole → ⊥ }
+{
+    match kind {
+        ErrorKind::BrokenPipe => Sent::Unheard,
+        _ => Sent::Failed,
+    }
+}
+
+// Whether all of it was written.
+pub fn is_whole(sent: Sent) -> bool {
+    match sent {
+        Sent::Whole => true,
+        Sent::Failed => false,
+        Sent::Unheard => false,
+    }
+}
+
+// Whether this is to be told.
+pub fn is_failed(sent: Sent) -> bool {
+    match sent {
+        Sent::Whole => false,
+        Sent::Failed => true,
+        Sent::Unheard => false,
+    }
+}
+
+// Whether a program goes on after this.
+pub fn is_heard(sent: Sent) -> bool {
+    match sent {
+        Sent::Whole => true,
+        Sent::Failed => true,
+        Sent::Unheard => false,
+    }
+}
