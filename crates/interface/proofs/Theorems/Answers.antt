@@ -45,7 +45,6 @@ use Rattle.planner.proofs.Theorems.Wish.{lengths_fail, plan_given, wish_fails}
 use Rattle.interface.specs.declared.record_bytes.ReadRecord.{ReadRecord}
 use Rattle.interface.specs.declared.record_bytes.ReadRecord.TheVariants.{Is, Broken}
 use Rattle.interface.specs.declared.wish_bytes.ReadWish.{ReadWish}
-use Rattle.interface.specs.declared.wish_bytes.ReadWish.TheVariants as ReadWish
 use Rattle.interface.specs.CaptureCalls.{import_call}
 use Rattle.interface.specs.ControllerCalls.{Call, reset_call, transfer_call, transfer_from}
 use Rattle.interface.specs.Filling.{Filling}

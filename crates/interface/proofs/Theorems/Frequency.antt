@@ -2,20 +2,16 @@
 -- Assumes nothing.
 use mathlib.Core.List.{List}
 use mathlib.Core.Path.{◌≡◌, refl, sym, ap, ◌∙◌}
-use Prim.Native.Nat.{ℕ, ◌+◌, ◌*◌, ◌<◌}
+use Prim.Native.Nat.{ℕ}
 use native.Mathlib.Nat.{mod-add-div}
 use native.Mathlib.Omega.{arith}
 use lib.ListN.{length, get_or}
 use borrow.Author.Tests.{eq-eqb}
 use Rattle.controller.proofs.Theorems.Times.{reset_frequency}
-use Rattle.controller.specs.declared.decision.Decision.{Decision}
-use Rattle.controller.specs.declared.oscillator.Frequency.{Frequency}
-use Rattle.controller.specs.declared.«record».Record.{Record}
 use Rattle.controller.specs.Bus.{reset_decided, whole}
-use Rattle.planner.specs.declared.wish.Wish.{Wish}
-use Rattle.interface.specs.ControllerCalls.{call_of, reset_call}
+use Rattle.interface.specs.ControllerCalls.{reset_call}
 use Rattle.interface.specs.RecordBytes.{high_byte, low_byte, record_bytes, record_from}
-use Rattle.interface.specs.Theorems.{FrequencySaid, ResetLeavesFrequency, ResetSays, says_khz}
+use Rattle.interface.specs.Theorems.{FrequencySaid, ResetLeavesFrequency, says_khz}
 use Rattle.interface.specs.WishBytes.{wish_bytes}
 use Rattle.interface.proofs.Laws.Read.{read_own, wish_own}
 
