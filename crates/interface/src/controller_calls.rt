@@ -38,13 +38,7 @@ fn transfer_from(
 }
 
 // One bus transfer.
-pub fn yaropesk_transfer(
-    bytes: &mut [u8],
-    memory: &mut [u8],
-    kind: u8,
-    byte: u8,
-    wait: u32,
-) -> u32
+pub fn yaropesk_transfer(bytes: &mut [u8], memory: &mut [u8], kind: u8, byte: u8, wait: u32) -> u32
     ensures { YaropeskTransferPromise bytes.old memory.old kind byte wait result bytes.new
         memory.new }
 {
