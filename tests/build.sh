@@ -10,6 +10,7 @@ command -v rt > /dev/null || { echo "build: the Rattle kit's command rt is neede
 
 # What rt builds of this crate, by this command. It runs a program that it has built, here on nothing.
 build() {
+    [ -d "crates/$1/src" ] || { echo "build: no crate is called $1" >&2; exit 2; }
     (cd "crates/$1" && rt "$2") < /dev/null || { echo "build: $1 is not proved and built" >&2; exit 1; }
 }
 
