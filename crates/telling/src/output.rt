@@ -1,7 +1,7 @@
 // Writing a text, and what became of it.
-ghost use Rattle.std.specs.Prelude.{◌≡◌};
+ghost use Rattle.std.specs.Prelude.{◌≡◌, ◌↔◌, IsTrue};
 ghost use Rattle.std.specs.Io.KnownBytes.{Appends};
-ghost use Rattle.telling.specs.declared.output.Sent.TheVariants.{Whole};
+ghost use Rattle.telling.specs.declared.output.Sent.TheVariants.{Failed, Unheard, Whole};
 
 use std::io::{ErrorKind, Write};
 
@@ -35,7 +35,9 @@ fn what_failed(kind: ErrorKind) -> Sent
 }
 
 // Whether all of it was written.
-pub fn is_whole(sent: Sent) -> bool {
+pub fn is_whole(sent: Sent) -> bool
+    ensures { IsTrue result ↔ (sent ≡ Whole) }
+{
     match sent {
         Sent::Whole => true,
         Sent::Failed => false,
@@ -44,7 +46,9 @@ pub fn is_whole(sent: Sent) -> bool {
 }
 
 // Whether this is to be told.
-pub fn is_failed(sent: Sent) -> bool {
+pub fn is_failed(sent: Sent) -> bool
+    ensures { IsTrue result ↔ (sent ≡ Failed) }
+{
     match sent {
         Sent::Whole => false,
         Sent::Failed => true,
@@ -53,7 +57,9 @@ pub fn is_failed(sent: Sent) -> bool {
 }
 
 // Whether a program goes on after this.
-pub fn is_heard(sent: Sent) -> bool {
+pub fn is_heard(sent: Sent) -> bool
+    ensures { IsTrue result ↔ (sent ≡ Unheard → ⊥) }
+{
     match sent {
         Sent::Whole => true,
         Sent::Failed => true,
