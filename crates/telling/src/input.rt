@@ -12,8 +12,8 @@ pub struct Input {
 }
 
 // Reads until the input ends, a read fails or the buffer is full. What is put there are the next bytes of the input, none of them
-// lost; where no read fails and the buffer has room left, nothing is left of the input. std's `read_to_end` needs memory of its own,
-// and its `read_exact` does not tell how much came before the end.
+// lost; where no read fails and the buffer has room left, nothing is left of the input. std's `read_to_end` needs memory of its
+// own, and its `read_exact` does not tell how much came before the end.
 pub fn read_input<R: Read>(from: &mut R, input: &mut [u8]) -> Input
     ensures fits { result.length ≤ length input.new }
     ensures bytes { Consumes (R.remaining from.old) (R.remaining from.new) (take result.length input.new) }

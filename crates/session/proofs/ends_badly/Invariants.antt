@@ -1,4 +1,5 @@
--- `session::ends_badly` is safe and ends: what is looked at lies in the report; the measure is what is left before it. Assumes nothing.
+-- `session::ends_badly` is safe and ends: what is looked at lies in the report; the measure is what is left before it. Assumes
+-- nothing.
 use Rattle.std.proofs.Common.{◌≤◌, length}
 use Rattle.session.proofs.ends_badly.Given as goal
 

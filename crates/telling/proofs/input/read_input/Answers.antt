@@ -1,5 +1,6 @@
 -- `telling::input::read_input`: what one read more puts behind what stands there is what the input loses. Assumes nothing.
-use Rattle.std.proofs.Common.{◌≡◌, ℕ, ◌+◌, ◌-◌, ◌≤◌, List, ◌++◌, rules, arith, length, take, slice_range, sym, ap, ◌∙◌, subst, le_refl, drop_at, length-take-le}
+use Rattle.std.proofs.Common.{◌≡◌, ℕ, ◌+◌, ◌-◌, ◌≤◌, List, ◌++◌, rules, arith, length, take, slice_range}
+use Rattle.std.proofs.Common.{sym, ap, ◌∙◌, subst, le_refl, drop_at, length-take-le}
 use Rattle.std.proofs.lemmas.Slice.{take-put_mid_below}
 use Rattle.std.specs.Io.KnownBytes.{Consumes}
 use Rattle.std.proofs.KnownBytes.{Consumes-trans}
@@ -24,10 +25,11 @@ pub loop-length-preserved : goal.loop-length-preserved
 loop-length-preserved g c =
     let from = c.loop-length.length in
     let input = c.loop-length.input in
+    let read = c.read.new.buf in
     let room = length input - from in
     let within = c.loop-length.invariant.1 in
-    let part = part_put from room c.in-Ok.more input c.read.new.buf within c.in-Ok.ensures.bound.0 in
-    let joined =
-    take_split from (from + c.in-Ok.more) input (put_mid from room input c.read.new.buf) (omega arith) (take-put_mid_below _ _ _ _ _ (le_refl _) within)
-    in
-    (search rules, search rules, subst (Consumes _ _) (ap (λ l. take from input ++ l) (sym part) ∙ joined) (Consumes-trans _ _ _ _ _ c.loop-length.invariant.2 c.in-Ok.ensures.bytes.0))
+    let behind = part_put from room c.in-Ok.more input read within c.in-Ok.ensures.bound.0 in
+    let before = take-put_mid_below _ _ _ _ _ (le_refl _) within in
+    let joined = take_split from (from + c.in-Ok.more) input (put_mid from room input read) (omega arith) before in
+    let lost = Consumes-trans _ _ _ _ _ c.loop-length.invariant.2 c.in-Ok.ensures.bytes.0 in
+    (search rules, search rules, subst (Consumes _ _) (ap (λ l. take from input ++ l) (sym behind) ∙ joined) lost)

@@ -1,4 +1,5 @@
--- `vectors::report::is_printed` is safe and ends: each byte that is read lies within the text; the measure is the bytes that are left.
+-- `vectors::report::is_printed` is safe and ends: each byte that is read lies within the text; the measure is the bytes that are
+-- left.
 use Rattle.std.proofs.Common.{◌-◌, ◌≤◌}
 use Rattle.vectors.proofs.report.is_printed.Given as goal
 

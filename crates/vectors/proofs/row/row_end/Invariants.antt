@@ -1,4 +1,5 @@
--- `vectors::row::row_end` meets its contract: the place stays between the row's start and the text's end; the measure is the bytes that are left.
+-- `vectors::row::row_end` meets its contract: the place stays between the row's start and the text's end; the measure is the
+-- bytes that are left.
 use Rattle.std.proofs.Common.{◌-◌, ◌≤◌, length}
 use Rattle.vectors.proofs.row.row_end.Given as goal
 

@@ -1,4 +1,5 @@
--- `vectors::shapes::cursor_position` is safe and ends: every position lies on the glass; the measure is the positions that are left.
+-- `vectors::shapes::cursor_position` is safe and ends: every position lies on the glass; the measure is the positions that are
+-- left.
 use Rattle.std.proofs.Common.{◌-◌, ◌≤◌}
 use Rattle.vectors.proofs.shapes.cursor_position.Given as goal
 
