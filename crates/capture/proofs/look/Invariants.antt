@@ -5,7 +5,8 @@ use Rattle.capture.proofs.look.Given as goal
 
 abbrev pub invariant-loop-from : goal.invariant-loop-from
 invariant-loop-from l =
-    (l.seen.number ≤ l.from + 1) × (l.seen.close < l.seen.number) × (l.from ≤ length l.text) × (length l.text < 9223372036854775808)
+    (l.seen.number ≤ l.from + 1) × (l.seen.close < l.seen.number)
+    × (l.from ≤ length l.text) × (length l.text < 9223372036854775808)
 
 abbrev pub decreases-loop-from : goal.decreases-loop-from
 decreases-loop-from l = length l.text - l.from
