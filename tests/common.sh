@@ -28,8 +28,8 @@ same() {
     count "$1" $?
 }
 
-# A program and its words, on a file, into a pipe whose reader is gone before anything is written: it ends by itself, or by
-# the signal that the system sends then.
+# A program and its words, on a file, into a pipe whose reader is gone before anything is written: it ends with what a shell tells
+# of a program that the system's signal ended.
 closed_pipe() {
     input=$1
     shift
@@ -38,10 +38,8 @@ closed_pipe() {
         timeout 20 "$@" < "$input"
         echo $? > "$work/status"
     } | true
-    case $(cat "$work/status") in
-        0 | 141) count 'a closed pipe' 0 ;;
-        *) count 'a closed pipe' 1 ;;
-    esac
+    [ "$(cat "$work/status")" -eq 141 ]
+    count 'a closed pipe' $?
 }
 
 # Standard input that cannot be read, closed, a folder or opened for writing: nothing is written, so that nothing is taken for the

@@ -208,6 +208,16 @@ done
 sed -n 's/^    \(display [ 0-9]\)/\1/p' examples/README.md > "$work/block"
 same 'examples/README, the accounts' "$work/block"
 
+# A reader that has seen enough of a program: what the system's signal would end it with, and nothing is said.
+awk 'BEGIN { for (i = 0; i < 9000; i++) print "S\t00\t0" }' > "$work/long"
+{
+    timeout 60 "$script" session "$work/long" 2> "$work/errors"
+    echo $? > "$work/status"
+} | head -n 1 > "$work/got"
+status=$(cat "$work/status")
+ends_with 'a reader that has seen enough of a session' 141
+wrote 'a reader that has seen enough of a session' 'no	answer	byte	busy'
+
 # --- Stand-ins. The same script over other programs: `session` is a shell that does what FILE says.
 tree=$work/tree
 mkdir -p "$tree/crates/session/out" "$tree/crates/glass/out" "$work/kit" "$work/tmp"

@@ -9,9 +9,10 @@ use captures::capture;
 use controller::is_done;
 use lines::{Written, first, put_number, put_text, read_line};
 use std::io::Write;
+use std::process::ExitCode;
 use telling::{
-    INPUT, LIMIT, is_failed, is_heard, read_input, send, tell, tell_bad_line, tell_too_long,
-    tell_unread, tell_unwritten,
+    INPUT, LIMIT, Sent, is_heard, read_input, send_or_tell, status_of, tell, tell_bad_line,
+    tell_too_long, tell_unread,
 };
 
 // What the capture of the longest session wants: nine bytes for each byte of it, and 291 more.
@@ -73,7 +74,7 @@ fn look(text: &[u8]) -> Seen {
 }
 
 // The pulses that run into the one before them: the first one's line and wait, and how many there are.
-fn tell_close<W: Write>(errors: &mut W, seen: Seen) {
+fn tell_close<W: Write>(errors: &mut W, seen: Seen) -> Sent {
     let mut words = [0u8; 256];
     let called = put_text(&mut words, 0, b"line ");
     let numbered = put_number(&mut words, called, seen.first);
@@ -86,7 +87,7 @@ fn tell_close<W: Write>(errors: &mut W, seen: Seen) {
     );
     let counted = put_number(&mut words, told, seen.close);
     let ended = put_text(&mut words, counted, b".");
-    tell(errors, b"capture", first(&words, ended));
+    tell(errors, b"capture", first(&words, ended))
 }
 
 // The capture, into a buffer that always serves: it is refused for a bad line alone.
@@ -97,7 +98,7 @@ fn write_capture(text: &[u8], out: &mut [u8]) -> Written
     capture(text, out)
 }
 
-fn show(rt: HostRuntime, text: &[u8])
+fn show(rt: HostRuntime, text: &[u8]) -> Sent
     requires { length text.now ≤ 65536 }
 {
     let mut output = rt.stdout();
@@ -107,34 +108,36 @@ fn show(rt: HostRuntime, text: &[u8])
     let written = write_capture(text, &mut out);
     let answer = written.answer;
     if !is_done(answer) {
-        tell_bad_line(&mut errors, b"capture", seen.number, text, seen.from);
-        return;
+        return tell_bad_line(&mut errors, b"capture", seen.number, text, seen.from);
     }
-    let sent = send(&mut output, first(&out, written.length));
-    if is_failed(sent) {
-        tell_unwritten(&mut errors, b"capture");
+    let sent = send_or_tell(
+        &mut output,
+        &mut errors,
+        b"capture",
+        first(&out, written.length),
+    );
+    if is_heard(sent) && 0 < seen.close {
+        return tell_close(&mut errors, seen);
     }
-    if !is_heard(sent) {
-        return;
-    }
-    if 0 < seen.close {
-        tell_close(&mut errors, seen);
-    }
+    sent
 }
 
-fn main(rt: HostRuntime) {
+// Reads the session and writes its capture: what became of what was written last, at which the run ends where nobody reads it.
+fn run(rt: HostRuntime) -> Sent {
     let mut from = rt.stdin();
     let mut errors = rt.stderr();
     let mut input = [0u8; INPUT];
     let got = read_input(&mut from, &mut input);
     if got.failed {
-        tell_unread(&mut errors, b"capture", b"Nothing was written.");
-        return;
+        return tell_unread(&mut errors, b"capture", b"Nothing was written.");
     }
     let length = got.length;
     if LIMIT < length {
-        tell_too_long(&mut errors, b"capture", b"Nothing was written.");
-        return;
+        return tell_too_long(&mut errors, b"capture", b"Nothing was written.");
     }
-    show(rt, first(&input, length));
+    show(rt, first(&input, length))
+}
+
+fn main(rt: HostRuntime) -> ExitCode {
+    status_of(run(rt))
 }

@@ -18,7 +18,10 @@ use lines::first;
 use report::{put_frequencies, put_total, put_wish, put_wrong};
 use runs::{Run, lay_out, play_run, records_of};
 use starts::STARTS;
+use std::io::Write;
+use std::process::ExitCode;
 use tally::{Tally, add_run, begin, join};
+use telling::{Sent, send, status_of};
 use verdict::is_fine;
 use wishes::WISHES;
 
@@ -134,11 +137,12 @@ fn play_wishes(out: &mut [u8; 2048], tally: Tally) -> Tally {
     next
 }
 
-fn print<P: Print>(rt: &P, out: &[u8; 2048], length: usize) {
-    let _ = rt.write_all(first(out, length));
+fn print<W: Write>(output: &mut W, out: &[u8; 2048], length: usize) -> Sent {
+    send(output, first(out, length))
 }
 
-fn main(rt: HostRuntime) {
+fn main(rt: HostRuntime) -> ExitCode {
+    let mut output = rt.stdout();
     let mut out = [0u8; 2048];
     let nothing = Tally {
         at: 0,
@@ -149,5 +153,5 @@ fn main(rt: HostRuntime) {
     let begun = put_frequencies(&mut out, nothing);
     let total = play_wishes(&mut out, begun);
     let told = put_total(&mut out, total);
-    print(&rt, &out, told.at);
+    status_of(print(&mut output, &out, told.at))
 }

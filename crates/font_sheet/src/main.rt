@@ -6,6 +6,8 @@ ghost use Rattle.std.specs.Prelude.{◌<◌};
 
 use controller::{Frequency, Record, after_reset};
 use lines::{first, put_byte, put_hex, put_text};
+use std::process::ExitCode;
+use telling::{send, status_of};
 
 // More than the sheet takes.
 const OUTPUT: usize = 6_144;
@@ -137,8 +139,9 @@ fn put_sheet(out: &mut [u8]) -> usize {
     next
 }
 
-fn main(rt: HostRuntime) {
+fn main(rt: HostRuntime) -> ExitCode {
+    let mut output = rt.stdout();
     let mut out = [0u8; OUTPUT];
     let length = put_sheet(&mut out);
-    let _ = rt.write_all(first(&out, length));
+    status_of(send(&mut output, first(&out, length)))
 }

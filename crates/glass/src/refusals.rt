@@ -2,6 +2,7 @@
 use crate::{Place, write_at};
 use lines::{first, put_answer, put_byte, put_number, put_text};
 use player::Standing;
+use telling::Sent;
 
 // More than the longest such line takes.
 const LONGEST: usize = 160;
@@ -38,10 +39,10 @@ fn put_refused(out: &mut [u8], at: usize, standing: Standing) -> usize {
     put_first(out, at, standing)
 }
 
-pub fn tell_refusals(rt: HostRuntime, place: Place, standing: Standing) {
+pub fn tell_refusals(rt: HostRuntime, place: Place, standing: Standing) -> Sent {
     let mut out = [0u8; LONGEST];
     let counted = put_played(&mut out, played(standing.number));
     let refused = put_refused(&mut out, counted, standing);
     let ended = put_byte(&mut out, refused, b'\n');
-    write_at(rt, place, first(&out, ended));
+    write_at(rt, place, first(&out, ended))
 }

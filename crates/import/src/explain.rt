@@ -5,6 +5,7 @@ use captures::{Fault, lacks_signal, unknown_fall, wrong_word};
 use controller::{Answer, number};
 use lines::{first, put_answer, put_byte, put_number, put_text};
 use std::io::Write;
+use telling::{Sent, send};
 
 // More than any of these takes.
 const OUTPUT: usize = 1024;
@@ -235,7 +236,7 @@ fn put_fault(out: &mut [u8], at: usize, capture: &[u8], answer: Answer) -> usize
 }
 
 // A refused capture, as one line.
-pub fn tell_refusal<W: Write>(errors: &mut W, capture: &[u8], answer: Answer) {
+pub fn tell_refusal<W: Write>(errors: &mut W, capture: &[u8], answer: Answer) -> Sent {
     let mut out = [0u8; OUTPUT];
     let named = put_text(&mut out, 0, b"import: ");
     let numbered = put_number(&mut out, named, number(answer) as u64);
@@ -243,5 +244,5 @@ pub fn tell_refusal<W: Write>(errors: &mut W, capture: &[u8], answer: Answer) {
     let told = put_answer(&mut out, parted, answer);
     let explained = put_fault(&mut out, told, capture, answer);
     let ended = put_byte(&mut out, explained, b'\n');
-    let _ = errors.write_all(first(&out, ended));
+    send(errors, first(&out, ended))
 }

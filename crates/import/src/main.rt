@@ -8,7 +8,8 @@ use captures::import;
 use controller::is_done;
 use explain::tell_refusal;
 use lines::first;
-use telling::{is_failed, read_input, send, tell, tell_unread, tell_unwritten};
+use std::process::ExitCode;
+use telling::{Sent, read_input, send_or_tell, status_of, tell, tell_unread};
 
 // The longest capture, and one byte more, by which a longer one shows.
 const LIMIT: usize = 2_097_152;
@@ -18,44 +19,43 @@ const INPUT: usize = LIMIT + 1;
 // The longest session of such a capture: 4 bytes for each 3 of it, and some more (`ImportFits`).
 const OUTPUT: usize = LIMIT / 3 * 4 + 16;
 
-fn print(rt: HostRuntime, text: &[u8]) {
+fn print(rt: HostRuntime, text: &[u8]) -> Sent {
     let mut output = rt.stdout();
     let mut errors = rt.stderr();
-    let sent = send(&mut output, text);
-    if is_failed(sent) {
-        tell_unwritten(&mut errors, b"import");
-    }
+    send_or_tell(&mut output, &mut errors, b"import", text)
 }
 
-fn write_session(rt: HostRuntime, capture: &[u8]) {
+fn write_session(rt: HostRuntime, capture: &[u8]) -> Sent {
     let mut errors = rt.stderr();
     let mut out = [0u8; OUTPUT];
     let written = import(capture, &mut out);
     let answer = written.answer;
     if is_done(answer) {
-        print(rt, first(&out, written.length));
-        return;
+        return print(rt, first(&out, written.length));
     }
-    tell_refusal(&mut errors, capture, answer);
+    tell_refusal(&mut errors, capture, answer)
 }
 
-fn main(rt: HostRuntime) {
+// Reads the capture and writes its session: what became of what was written last, at which the run ends where nobody reads it.
+fn run(rt: HostRuntime) -> Sent {
     let mut from = rt.stdin();
     let mut errors = rt.stderr();
     let mut input = [0u8; INPUT];
     let got = read_input(&mut from, &mut input);
     if got.failed {
-        tell_unread(&mut errors, b"import", b"Nothing was imported.");
-        return;
+        return tell_unread(&mut errors, b"import", b"Nothing was imported.");
     }
     let length = got.length;
     if LIMIT < length {
-        tell(
+        return tell(
             &mut errors,
             b"import",
             b"the capture is longer than 2,097,152 bytes, the most that is taken. Nothing was imported.",
         );
-        return;
     }
-    write_session(rt, first(&input, length));
+    write_session(rt, first(&input, length))
+}
+
+fn main(rt: HostRuntime) -> ExitCode {
+    status_of(run(rt))
 }

@@ -11,9 +11,10 @@ use controller::{Frequency, is_in_range};
 use lines::{Written, first};
 use options::asked_frequency;
 use player::{play, play_through};
+use std::process::ExitCode;
 use telling::{
-    INPUT, LIMIT, is_failed, is_heard, read_input, send, tell, tell_bad_line, tell_too_long,
-    tell_unread, tell_unwritten,
+    INPUT, LIMIT, Sent, is_heard, read_input, send_or_tell, status_of, tell, tell_bad_line,
+    tell_too_long, tell_unread,
 };
 
 // What the report of the longest session wants: six bytes for each byte of it, and 62 more.
@@ -27,15 +28,11 @@ fn write_report(text: &[u8], frequency: Frequency, out: &mut [u8]) -> Written
     play(text, frequency, out)
 }
 
-// Prints a text, or tells that it could not. Whether the run goes on: not where nobody reads it any more.
-fn print(rt: HostRuntime, text: &[u8]) -> bool {
+// Prints a text, or tells that it could not.
+fn print(rt: HostRuntime, text: &[u8]) -> Sent {
     let mut output = rt.stdout();
     let mut errors = rt.stderr();
-    let sent = send(&mut output, text);
-    if is_failed(sent) {
-        tell_unwritten(&mut errors, b"session");
-    }
-    is_heard(sent)
+    send_or_tell(&mut output, &mut errors, b"session", text)
 }
 
 // Whether a report ends with the row of a bad line: its answer alone has two digits, so that six bytes before the row's last tab
@@ -52,7 +49,7 @@ fn ends_badly(report: &[u8]) -> bool {
 }
 
 // Tells of the bad line that ended a session.
-fn tell_end(rt: HostRuntime, text: &[u8], frequency: Frequency) {
+fn tell_end(rt: HostRuntime, text: &[u8], frequency: Frequency) -> Sent {
     let mut errors = rt.stderr();
     let standing = play_through(text, frequency, u64::MAX);
     tell_bad_line(
@@ -61,48 +58,50 @@ fn tell_end(rt: HostRuntime, text: &[u8], frequency: Frequency) {
         standing.number,
         text,
         standing.from,
-    );
+    )
 }
 
-fn report(rt: HostRuntime, text: &[u8], frequency: Frequency)
+fn report(rt: HostRuntime, text: &[u8], frequency: Frequency) -> Sent
     requires { length text.now ≤ 65536 }
 {
     let mut out = [0u8; OUTPUT];
     let written = write_report(text, frequency, &mut out);
     let report = first(&out, written.length);
-    if !print(rt, report) {
-        return;
+    let sent = print(rt, report);
+    if is_heard(sent) && ends_badly(report) {
+        return tell_end(rt, text, frequency);
     }
-    if ends_badly(report) {
-        tell_end(rt, text, frequency);
-    }
+    sent
 }
 
-fn main(rt: HostRuntime) {
+// Reads the session and plays it: what became of what was written last, at which the run ends where nobody reads it.
+fn run(rt: HostRuntime) -> Sent {
     let mut from = rt.stdin();
     let mut errors = rt.stderr();
     let frequency = asked_frequency(&rt);
     if !is_in_range(frequency) {
-        tell(
+        return tell(
             &mut errors,
             b"session",
             b"these words cannot be followed. Allowed is --khz N, the oscillator's frequency, 190 to 350; without it 250.",
         );
-        return;
     }
     let mut input = [0u8; INPUT];
     let got = read_input(&mut from, &mut input);
     if got.failed {
-        tell_unread(&mut errors, b"session", b"Nothing was played.");
-        return;
+        return tell_unread(&mut errors, b"session", b"Nothing was played.");
     }
     let length = got.length;
     if LIMIT < length {
-        if !print(rt, b"too long\n") {
-            return;
+        let sent = print(rt, b"too long\n");
+        if !is_heard(sent) {
+            return sent;
         }
-        tell_too_long(&mut errors, b"session", b"Nothing was played.");
-        return;
+        return tell_too_long(&mut errors, b"session", b"Nothing was played.");
     }
-    report(rt, first(&input, length), frequency);
+    report(rt, first(&input, length), frequency)
+}
+
+fn main(rt: HostRuntime) -> ExitCode {
+    status_of(run(rt))
 }

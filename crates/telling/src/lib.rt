@@ -11,8 +11,8 @@ mod words;
 pub use bad_line::tell_bad_line;
 pub use command::{put_word, word_count};
 pub use input::{Input, read_input};
-pub use output::{Sent, is_failed, is_heard, is_whole, send};
-pub use words::{tell, tell_too_long, tell_unread, tell_unwritten};
+pub use output::{Sent, is_failed, is_heard, is_whole, send, status_of};
+pub use words::{send_or_tell, tell, tell_too_long, tell_unread, tell_unwritten};
 
 // The longest session.
 pub const LIMIT: usize = 65_536;

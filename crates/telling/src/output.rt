@@ -1,9 +1,11 @@
 // Writing a text, and what became of it.
 ghost use Rattle.std.specs.Prelude.{◌≡◌, ◌↔◌, IsTrue};
 ghost use Rattle.std.specs.Io.KnownBytes.{Appends};
+ghost use Rattle.std.specs.Process.{exit_status};
 ghost use Rattle.telling.specs.declared.output.Sent.TheVariants.{Failed, Unheard, Whole};
 
 use std::io::{ErrorKind, Write};
+use std::process::ExitCode;
 
 #[derive(Clone, Copy)]
 pub enum Sent {
@@ -11,7 +13,7 @@ pub enum Sent {
     Whole,
     // A write failed, so that some of it may be missing.
     Failed,
-    // Nobody reads the pipe any more: there is nobody left to write to, and a program ends at once, without a word.
+    // Nobody reads the pipe any more: there is nobody left to write to, and a program ends at once, without a word (`status_of`).
     Unheard,
 }
 
@@ -64,5 +66,18 @@ pub fn is_heard(sent: Sent) -> bool
         Sent::Whole => true,
         Sent::Failed => true,
         Sent::Unheard => false,
+    }
+}
+
+// What a program ends with: 0, or 141 where nobody reads it any more, which is what a shell tells of a program that the system's
+// signal PIPE ended. std has that signal ignored, so that a write fails in its place.
+pub fn status_of(sent: Sent) -> ExitCode
+    ensures unheard { sent ≡ Unheard → exit_status result ≡ 141 }
+    ensures heard { (sent ≡ Unheard → ⊥) → exit_status result ≡ 0 }
+{
+    match sent {
+        Sent::Whole => ExitCode::from(0),
+        Sent::Failed => ExitCode::from(0),
+        Sent::Unheard => ExitCode::from(141),
     }
 }

@@ -18,6 +18,8 @@ mod text;
 use lines::first;
 use report::{Tally, put_total};
 use shapes::shapes;
+use std::process::ExitCode;
+use telling::{send, status_of};
 
 // Every document's examples, in their order.
 fn play_documents(out: &mut [u8]) -> Tally {
@@ -34,8 +36,9 @@ fn play_documents(out: &mut [u8]) -> Tally {
 }
 
 // The report is gathered and written once. The buffer holds it even where every row differs.
-fn main(rt: HostRuntime) {
+fn main(rt: HostRuntime) -> ExitCode {
+    let mut output = rt.stdout();
     let mut out = [0u8; 65536];
     let total = play_documents(&mut out);
-    let _ = rt.write_all(first(&out, total.at));
+    status_of(send(&mut output, first(&out, total.at)))
 }

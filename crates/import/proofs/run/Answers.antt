@@ -1,9 +1,9 @@
--- `import::main`: its buffer has as many bytes as it is made of. Assumes nothing.
+-- `import::run`: its buffer has as many bytes as it is made of. Assumes nothing.
 use mathlib.Core.List.{List}
 use mathlib.Core.Path.{◌≡◌, sym, ◌∙◌}
 use Prim.Native.Nat.{ℕ}
 use lib.ListN.{length, replicate, length-replicate}
-use Rattle.import.proofs.main.Goals as goal
+use Rattle.import.proofs.run.Goals as goal
 
 -- of so many bytes, and as long as before
 lasts : (size : ℕ) (input : List ℕ) → length input ≡ length (replicate {A = ℕ} size 0) → size ≡ length input
