@@ -1,4 +1,8 @@
 // What is told on standard error. Where even that cannot be written, there is nobody left to tell.
+ghost use Rattle.std.specs.Prelude.{◌≡◌};
+ghost use Rattle.std.specs.Io.KnownBytes.{Appends};
+ghost use Rattle.telling.specs.declared.output.Sent.TheVariants.{Whole};
+
 use crate::output::{Sent, is_failed, is_heard, send};
 use lines::{first, put_byte, put_text};
 use std::io::Write;
@@ -68,7 +72,9 @@ pub fn send_or_tell<O: Write, E: Write>(
     errors: &mut E,
     program: &[u8],
     text: &[u8],
-) -> Sent {
+) -> Sent
+    ensures { result ≡ Whole → Appends (O.contents output.old) (O.contents output.new) text.now }
+{
     let sent = send(output, text);
     if !is_failed(sent) {
         return sent;
