@@ -9,3 +9,4 @@ pub mod Fields
 pub mod Kinds
 pub mod Nothing
 pub mod Session
+pub mod Told

@@ -1,6 +1,6 @@
 -- Numbers as text: hex digits, decimal digits, and the fields that lines and rows are made of (document 01, "Session lines").
 -- Assumes nothing.
-use Rattle.std.specs.Prelude.{Bool, cond, ◌&&◌, List, [], ◌∷◌, ◌++◌, ℕ, zero, suc, ◌+◌, ◌-◌, ◌*◌, ◌/◌, ◌%◌, ltb, leb, eqb, length, get_or}
+use Rattle.std.specs.Prelude.{Bool, cond, ◌&&◌, List, [], ◌∷◌, ◌++◌, ℕ, zero, suc, ◌+◌, ◌-◌, ◌*◌, ◌/◌, ◌%◌, ltb, leb, eqb, length, get_or, Option, Some, None}
 use Prim.Native.Char.{code}
 
 -- The tab that parts two fields.
@@ -24,6 +24,14 @@ between first last byte = leb first byte && leb byte last
 unfoldable pub worth_of : ℕ → ℕ
 worth_of byte = cond (between 0x30 0x39 byte) (byte - 0x30) (cond (between 0x41 0x46 byte) (byte - 0x37) 16)
 
+-- The same where it is such a digit, and nothing for any other byte.
+abbrev pub worth_in : ℕ → Option ℕ
+worth_in byte = cond (ltb (worth_of byte) 16) (Some (worth_of byte)) None
+
+-- What a byte is worth as a decimal digit, where it is one.
+abbrev pub decimal_in : ℕ → Option ℕ
+decimal_in byte = cond (ltb (worth_of byte) 10) (Some (worth_of byte)) None
+
 -- What three digits say: their worth in hundreds, tens and ones, and 0 where one of them is no decimal digit.
 unfoldable pub three_say : ℕ → ℕ → ℕ → ℕ
 three_say hundreds tens ones =
@@ -33,6 +41,12 @@ three_say hundreds tens ones =
 unfoldable pub three_digits : List ℕ → ℕ
 three_digits word =
     cond (eqb (length word) 3) (three_say (worth_of (get_or word 0 0)) (worth_of (get_or word 1 0)) (worth_of (get_or word 2 0))) 0
+
+-- Three decimal digits.
+unfoldable pub are_three : List ℕ → Bool
+are_three word =
+    eqb (length word) 3
+    && (ltb (worth_of (get_or word 0 0)) 10 && (ltb (worth_of (get_or word 1 0)) 10 && ltb (worth_of (get_or word 2 0)) 10))
 
 -- A number's digits above the last, then the last. The first argument, above the number, only bounds the recursion.
 unfoldable pub spelled : ℕ → ℕ → List ℕ

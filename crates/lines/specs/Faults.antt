@@ -6,10 +6,9 @@ use Rattle.controller.specs.declared.answers.Answer.{Answer}
 use Rattle.controller.specs.declared.answers.Answer.TheVariants.{Done}
 use Rattle.controller.specs.Answers.{number_of, Row, Tells}
 use Rattle.controller.specs.declared.sent.Sent.{Sent}
-use Rattle.lines.specs.declared.reader.Line.{Line}
 use Rattle.lines.specs.Digits.{tab, between, digit, decimal, byte_field}
 use Rattle.lines.specs.Line.{kind_field, lines_of}
-use Rattle.lines.specs.Reading.{text_at, line_of, refused_line}
+use Rattle.lines.specs.Reading.{Reading, text_at, line_of, refused_line}
 use Rattle.lines.specs.Session.{session_of}
 use Rattle.lines.specs.Theorems.{AllSayable, Begins, Starts}
 
@@ -54,7 +53,7 @@ pub record IsFault (answer : Answer) : Type 0 where
   pub most : number_of answer ≤ 19
 
 -- A line that is refused: one of the four, and zeros for all but the offset.
-pub record Refused (line : Line) : Type 0 where
+pub record Refused (line : Reading) : Type 0 where
   pub fault : IsFault line.answer
   pub zeros : line ≡ refused_line line.answer line.offset
 

@@ -1,6 +1,6 @@
 -- The text of a session line (document 01, "Session lines").
 -- Assumes nothing.
-use Rattle.std.specs.Prelude.{cond, List, [], ◌∷◌, ◌++◌, ℕ, eqb}
+use Rattle.std.specs.Prelude.{cond, List, [], ◌∷◌, ◌++◌, ℕ, eqb, ltb, Option, Some, None}
 use Prim.Native.Char.{code}
 use Rattle.controller.specs.declared.sent.Sent.{Sent}
 use Rattle.lines.specs.Digits.{tab, newline, byte_field, number_field}
@@ -14,6 +14,10 @@ unfoldable pub kind_of : ℕ → ℕ
 kind_of letter =
     cond (eqb letter (code "I")) 0
     (cond (eqb letter (code "D")) 1 (cond (eqb letter (code "S")) 2 (cond (eqb letter (code "R")) 3 4)))
+
+-- The kind of a letter, where it has one.
+abbrev pub kind_in : ℕ → Option ℕ
+kind_in letter = cond (ltb 3 (kind_of letter)) None (Some (kind_of letter))
 
 -- A field: the kind's letter, and a tab.
 unfoldable pub kind_field : ℕ → List ℕ

@@ -5,8 +5,7 @@ use Rattle.controller.specs.declared.answers.Answer.{Answer}
 use Rattle.controller.specs.declared.answers.Answer.TheVariants.{Done}
 use Rattle.controller.specs.Answers.{is_done}
 use Rattle.controller.specs.declared.sent.Sent.{Sent}
-use Rattle.lines.specs.declared.reader.Line.{Line}
-use Rattle.lines.specs.Reading.{line_of}
+use Rattle.lines.specs.Reading.{line_of, sent_of}
 
 -- A session: the transfers before its end or its bad line, and how it ends: done, or the bad line's answer.
 pub record Session : Type 0 where
@@ -20,10 +19,6 @@ ended_by answer = record { sent = []; end = answer }
 -- A transfer, and then a session.
 abbrev pub following : Sent → Session → Session
 following t s = record { sent = t ∷ s.sent; end = s.end }
-
--- The transfer that a line says.
-abbrev pub sent_of : Line → Sent
-sent_of line = record { kind = line.kind; byte = line.byte; wait = line.wait }
 
 -- At most so many lines of a text, each where the one before it ended, up to a bad one. What is after them is not looked at.
 unfoldable pub read_up_to : ℕ → List ℕ → Session

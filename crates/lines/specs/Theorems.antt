@@ -1,17 +1,18 @@
 -- What is proved of lines and of the calls that read and write them: each theorem is a type here, and its proof stands in
 -- proofs/Theorems (document 01, "Session lines", "What each number says").
 -- Assumes nothing.
-use Rattle.std.specs.Prelude.{false, List, [], ◌∷◌, ◌++◌, ◌≡◌, ℕ, ◌<◌, ◌≤◌, length, take}
+use Rattle.std.specs.Prelude.{false, List, [], ◌∷◌, ◌++◌, ◌≡◌, ℕ, ◌<◌, ◌≤◌, length, take, Result, IsOk}
+use Rattle.controller.specs.declared.answers.Answer.{Answer}
 use Rattle.controller.specs.declared.answers.Answer.TheVariants.{Done}
 use Rattle.controller.specs.declared.sent.Sent.{Sent}
 use Rattle.controller.specs.Bus.{bad_transfer}
 use Rattle.controller.specs.Answers.{number_of, Row, Tells}
 use Rattle.controller.specs.Rows.{NoTransfer}
+use Rattle.lines.specs.declared.reader.BadLine.{BadLine}
 use Rattle.lines.specs.declared.reader.Line.{Line}
-use Rattle.lines.specs.declared.writer.Written.{Written}
 use Rattle.lines.specs.Digits.{decimal, three_digits}
 use Rattle.lines.specs.Line.{line, lines_of, wait_limit}
-use Rattle.lines.specs.Reading.{line_of}
+use Rattle.lines.specs.Reading.{Reading, line_of, told_of}
 use Rattle.lines.specs.Session.{session_of}
 use Rattle.lines.specs.Writing.{Writing, Writes, writing, wanting, line_writing}
 
@@ -40,7 +41,7 @@ abbrev pub Starts : List ℕ → Type 0
 Starts text = Begins line text
 
 -- The line of a transfer as it is read.
-abbrev pub line_read : ℕ → ℕ → ℕ → Line
+abbrev pub line_read : ℕ → ℕ → ℕ → Reading
 line_read kind byte wait =
     record { answer = Done; kind = kind; byte = byte; wait = wait; length = length (line kind byte wait); offset = 0 }
 
@@ -52,8 +53,8 @@ WrittenReadsBack =
 -- So a buffer into which a line was written reads back as the same transfer, whatever stands after the line.
 abbrev pub BufferReadsBack : Type 0
 BufferReadsBack =
-    (kind byte wait : ℕ) (out : List ℕ) (told : Written) (after : List ℕ) → byte < 256 → wait ≤ wait_limit
-    → Writes (line_writing kind byte wait out) out told after → told.answer ≡ Done → line_of after ≡ line_read kind byte wait
+    (kind byte wait : ℕ) (out : List ℕ) (told : Result ℕ Answer) (after : List ℕ) → byte < 256 → wait ≤ wait_limit
+    → Writes (line_writing kind byte wait out) out told after → IsOk told → line_of after ≡ line_read kind byte wait
 
 -- A line that was read is written out the same, byte for byte, into any buffer of at least 16 bytes.
 abbrev pub ReadWritesBack : Type 0
@@ -99,11 +100,11 @@ LinesFit = (kind byte wait : ℕ) → wait ≤ wait_limit → length (line kind 
 
 -- No second answer fits: two outcomes that both meet the promise of a writing call are one, and so are the buffers.
 abbrev pub OneWriting : Type 0
-OneWriting = (w : Writing) (out : List ℕ) (a b : Written) (x y : List ℕ) → Writes w out a x → Writes w out b y → (a ≡ b) × (x ≡ y)
+OneWriting = (w : Writing) (out : List ℕ) (a b : Result ℕ Answer) (x y : List ℕ) → Writes w out a x → Writes w out b y → (a ≡ b) × (x ≡ y)
 
 -- And two lines that both are what the reader promises are one.
 abbrev pub OneRead : Type 0
-OneRead = (text : List ℕ) (a b : Line) → a ≡ line_of text → b ≡ line_of text → a ≡ b
+OneRead = (text : List ℕ) (a b : Result Line BadLine) → a ≡ told_of (line_of text) → b ≡ told_of (line_of text) → a ≡ b
 
 -- The lines of transfers are read as those transfers, and then what is after them.
 abbrev pub SessionReadsBack : Type 0

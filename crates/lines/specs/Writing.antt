@@ -1,12 +1,11 @@
 -- Calls that write text into a lent buffer: their answer, the length, and every byte of the buffer (document 01, "Session
 -- lines", "What each number says").
 -- Assumes nothing.
-use Rattle.std.specs.Prelude.{cond, List, [], ◌++◌, ◌≡◌, ℕ, ltb, length, drop}
+use Rattle.std.specs.Prelude.{cond, List, [], ◌++◌, ◌≡◌, ℕ, ltb, length, drop, Result, Ok, Err}
 use Rattle.controller.specs.declared.answers.Answer.{Answer}
 use Rattle.controller.specs.declared.answers.Answer.TheVariants.{Done, BadTransfer, OutputShort}
 use Rattle.controller.specs.Bus.{bad_transfer}
-use Rattle.controller.specs.Answers.{number_of}
-use Rattle.lines.specs.declared.writer.Written.{Written}
+use Rattle.controller.specs.Answers.{is_done, number_of}
 use Rattle.lines.specs.Line.{line}
 
 -- What a call that writes text comes to: its answer, and the text that it puts at the start of the buffer.
@@ -26,14 +25,19 @@ writing text = record { answer = Done; text = text }
 abbrev pub onto : List ℕ → List ℕ → List ℕ
 onto text out = text ++ drop (length text) out
 
--- What the caller is told: the answer and the text's length.
-abbrev pub written_of : Writing → Written
-written_of w = record { answer = w.answer; length = length w.text }
+-- What the caller is told: the text's length, or the refusal.
+abbrev pub written_of : Writing → Result ℕ Answer
+written_of w = cond (is_done w.answer) (Ok (length w.text)) (Err w.answer)
+
+-- The answer that this tells: done, or the refusal.
+abbrev pub answer_in : Result ℕ Answer → Answer
+answer_in (Ok length) = Done
+answer_in (Err answer) = answer
 
 -- What a call that writes text promises: what is returned, its number in the table, and every byte of the buffer.
-pub record Writes (w : Writing) (before : List ℕ) (returned : Written) (after : List ℕ) : Type 0 where
+pub record Writes (w : Writing) (before : List ℕ) (returned : Result ℕ Answer) (after : List ℕ) : Type 0 where
   pub told : returned ≡ written_of w
-  pub number : number_of returned.answer ≡ number_of w.answer
+  pub number : number_of (answer_in returned) ≡ number_of w.answer
   pub buffer : after ≡ onto w.text before
 
 -- Writing a text for which the buffer must have this size.

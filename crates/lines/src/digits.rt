@@ -1,95 +1,80 @@
 // Digits and letters, each way.
 ghost use Rattle.std.specs.Prelude.{◌≡◌};
-ghost use Rattle.lines.specs.Digits.{three_say};
-ghost use Rattle.lines.specs.Line.{kind_of, letter_of};
+ghost use Rattle.lines.specs.Digits.{decimal_in};
+ghost use Rattle.lines.specs.Line.{kind_in, letter_of};
 ghost use Rattle.lines.specs.Promises.{HexDigitPromise, ThreeDigitsPromise, WorthOfPromise};
 
 // The last hex digit of a number: `0` to `9`, or `A` to `F`.
+#[tactic(auto, unfolding(crate::specs::Digits::digit))]
 pub fn hex_digit(number: u8) -> u8
     ensures { HexDigitPromise number result }
 {
     if number % 16 < 10 {
-        return 0x30 + number % 16;
+        b'0' + number % 16
+    } else {
+        b'A' - 10 + number % 16
     }
-    0x37 + number % 16
 }
 
-// What a byte is worth as an upper-case hex digit, and 16 where it is none.
-pub fn worth_of(byte: u8) -> u8
+// What a byte is worth as an upper-case hex digit, where it is one.
+#[tactic(auto, unfolding(crate::specs::Digits::worth_of))]
+pub fn worth_of(byte: u8) -> Option<u8>
     ensures { WorthOfPromise byte result }
 {
-    if byte < 0x30 {
-        return 16;
+    match byte {
+        b'0'..=b'9' => Some(byte - b'0'),
+        b'A'..=b'F' => Some(byte - b'A' + 10),
+        _ => None,
     }
-    if byte <= 0x39 {
-        return byte - 0x30;
-    }
-    if byte < 0x41 {
-        return 16;
-    }
-    if byte <= 0x46 {
-        return byte - 0x37;
-    }
-    16
 }
 
-// What three digits say by their worth, and 0 where one of them is no decimal digit.
-fn three_say(hundreds: u8, tens: u8, ones: u8) -> u16
-    ensures { result ≡ three_say hundreds tens ones }
+// What a byte is worth as a decimal digit, where it is one.
+pub fn decimal_worth(byte: u8) -> Option<u8>
+    ensures { result ≡ decimal_in byte }
 {
-    if 9 < hundreds {
-        return 0;
+    match worth_of(byte) {
+        Some(worth) if worth < 10 => Some(worth),
+        _ => None,
     }
-    if 9 < tens {
-        return 0;
-    }
-    if 9 < ones {
-        return 0;
-    }
-    hundreds as u16 * 100 + tens as u16 * 10 + ones as u16
 }
 
-// The number that three decimal digits say, and 0 for any other word.
-pub fn three_digits(word: &[u8]) -> u16
+// The number that three decimal digits say; any other word says none.
+#[tactic(auto, unfolding(crate::specs::Digits::are_three, crate::specs::Digits::three_digits, crate::specs::Digits::three_say))]
+pub fn three_digits(word: &[u8]) -> Option<u16>
     ensures { ThreeDigitsPromise word.now result }
 {
-    if word.len() == 3 {
-        return three_say(worth_of(word[0]), worth_of(word[1]), worth_of(word[2]));
+    if word.len() != 3 {
+        return None;
     }
-    0
+    let hundreds = decimal_worth(word[0])? as u16;
+    let tens = decimal_worth(word[1])? as u16;
+    let ones = decimal_worth(word[2])? as u16;
+    Some(hundreds * 100 + tens * 10 + ones)
 }
 
 // The letter of a kind.
+#[tactic(auto, unfolding(crate::specs::Line::letter_of))]
 pub fn letter_for(kind: u8) -> u8
     ensures { result ≡ letter_of kind }
 {
-    if kind == 0 {
-        return b'I';
+    match kind {
+        0 => b'I',
+        1 => b'D',
+        2 => b'S',
+        _ => b'R',
     }
-    if kind == 1 {
-        return b'D';
-    }
-    if kind == 2 {
-        return b'S';
-    }
-    b'R'
 }
 
-// The kind of a letter, and 4 where it has none.
-pub fn kind_of(letter: u8) -> u8
-    ensures { result ≡ kind_of letter }
+// The kind of a letter, where it has one.
+#[tactic(auto, unfolding(crate::specs::Line::kind_of))]
+pub fn kind_of(letter: u8) -> Option<u8>
+    ensures { result ≡ kind_in letter }
 {
-    if letter == b'I' {
-        return 0;
+    match letter {
+        b'I' => Some(0),
+        b'D' => Some(1),
+        b'S' => Some(2),
+        b'R' => Some(3),
+        _ => None,
     }
-    if letter == b'D' {
-        return 1;
-    }
-    if letter == b'S' {
-        return 2;
-    }
-    if letter == b'R' {
-        return 3;
-    }
-    4
 }

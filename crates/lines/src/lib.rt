@@ -10,7 +10,7 @@ mod words;
 mod writer;
 
 pub use digits::{hex_digit, three_digits, worth_of};
-pub use reader::{Line, read_line};
+pub use reader::{BadLine, Line, read_line};
 pub use text::{first, put_byte, put_hex, put_number, put_text};
 pub use words::put_answer;
-pub use writer::{Written, write_header, write_line, write_row};
+pub use writer::{write_header, write_line, write_row};

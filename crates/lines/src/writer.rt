@@ -9,13 +9,6 @@ use crate::fields::{put_byte_field, put_kind_field, put_number_field};
 use crate::text::put_text;
 use controller::{Answer, is_bad};
 
-// What a call that writes text is told: the length of what was written, 0 where it was refused.
-#[derive(Clone, Copy)]
-pub struct Written {
-    pub answer: Answer,
-    pub length: usize,
-}
-
 fn put_line(kind: u8, byte: u8, wait: u32, out: &mut [u8]) -> usize
     requires { 16 ≤ length out.old }
     ensures { (result ≡ length (line kind byte wait)) × (out.new ≡ sets out.old 0 (line kind byte wait)) }
@@ -37,58 +30,34 @@ fn put_row(number: u64, answer: u8, byte: u8, busy: u32, out: &mut [u8]) -> usiz
 }
 
 // The line of a transfer, into a buffer of at least 16 bytes.
-pub fn write_line(kind: u8, byte: u8, wait: u32, out: &mut [u8]) -> Written
+pub fn write_line(kind: u8, byte: u8, wait: u32, out: &mut [u8]) -> Result<usize, Answer>
     ensures { WriteLinePromise kind byte wait out.old result out.new }
 {
     if is_bad(kind, byte) {
-        return Written {
-            answer: Answer::BadTransfer,
-            length: 0,
-        };
+        return Err(Answer::BadTransfer);
     }
     if out.len() < 16 {
-        return Written {
-            answer: Answer::OutputShort,
-            length: 0,
-        };
+        return Err(Answer::OutputShort);
     }
-    let length = put_line(kind, byte, wait, out);
-    Written {
-        answer: Answer::Done,
-        length,
-    }
+    Ok(put_line(kind, byte, wait, out))
 }
 
 // A report's row, into a buffer of at least 42 bytes.
-pub fn write_row(number: u64, answer: u8, byte: u8, busy: u32, out: &mut [u8]) -> Written
+pub fn write_row(number: u64, answer: u8, byte: u8, busy: u32, out: &mut [u8]) -> Result<usize, Answer>
     ensures { WriteRowPromise number answer byte busy out.old result out.new }
 {
     if out.len() < 42 {
-        return Written {
-            answer: Answer::OutputShort,
-            length: 0,
-        };
+        return Err(Answer::OutputShort);
     }
-    let length = put_row(number, answer, byte, busy, out);
-    Written {
-        answer: Answer::Done,
-        length,
-    }
+    Ok(put_row(number, answer, byte, busy, out))
 }
 
 // A report's header, into a buffer of at least 20 bytes.
-pub fn write_header(out: &mut [u8]) -> Written
+pub fn write_header(out: &mut [u8]) -> Result<usize, Answer>
     ensures { WriteHeaderPromise out.old result out.new }
 {
     if out.len() < 20 {
-        return Written {
-            answer: Answer::OutputShort,
-            length: 0,
-        };
+        return Err(Answer::OutputShort);
     }
-    let length = put_text(out, 0, b"no\tanswer\tbyte\tbusy\n");
-    Written {
-        answer: Answer::Done,
-        length,
-    }
+    Ok(put_text(out, 0, b"no\tanswer\tbyte\tbusy\n"))
 }

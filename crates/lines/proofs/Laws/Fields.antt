@@ -1,6 +1,7 @@
 -- Laws of a line's fields as they are read: what stands before each place, and that the reader looks no further than the byte at
 -- which it stops.
 -- Assumes nothing.
+use Rattle.std.specs.Prelude.{Ok, Err}
 use mathlib.Core.Bool.{true, false}
 use mathlib.Core.List.{List, [], ◌∷◌, ◌++◌, append_assoc}
 use mathlib.Core.Logic.{⊎_elim}
@@ -16,12 +17,9 @@ use Rattle.controller.specs.declared.answers.Answer.{Answer}
 use Rattle.controller.specs.declared.answers.Answer.TheVariants.{BadKind, BadByte, BadWait, NoNewline}
 use Rattle.controller.specs.Bus.{bad_transfer}
 use Rattle.controller.specs.Answers.{number_of}
-use Rattle.lines.specs.declared.reader.Field.TheVariants.{Stands, Fault}
-use Rattle.lines.specs.declared.reader.Wait.{Wait}
-use Rattle.lines.specs.declared.reader.Wait.TheVariants.{Good, Bad}
 use Rattle.lines.specs.Digits.{tab, newline, digit, worth_of, decimal, hex_pair, byte_field, number_field}
 use Rattle.lines.specs.Line.{line, letter_of, kind_field, kind_of, wait_limit}
-use Rattle.lines.specs.Reading.{text_at, kind_read, digit_stands, byte_read, rest_of, wait_of, refused_line, with_wait, with_byte, with_kind, line_of}
+use Rattle.lines.specs.Reading.{WaitRead, fault, text_at, kind_read, digit_stands, byte_read, rest_of, wait_of, refused_line, with_wait, with_byte, with_kind, line_of}
 use Rattle.lines.specs.Theorems.{Sayable, Starts}
 use Rattle.lines.specs.Faults.{KindStands, ByteStands, NoDigit, WaitStands, number_at}
 use Rattle.lines.proofs.Laws.Digits.{either, worth_digit, digit_worth}
@@ -82,7 +80,7 @@ pub record KindIs (text : List ℕ) (kind : ℕ) : Type 0 where
   pub below : kind < 4
   pub inside : 2 ≤ length text
   pub first : take 2 text ≡ kind_field kind
-  pub reads : kind_read text ≡ Stands kind
+  pub reads : kind_read text ≡ Ok kind
 
 -- a byte that stands after it
 pub record ByteIs (text : List ℕ) (kind byte : ℕ) : Type 0 where
@@ -91,7 +89,7 @@ pub record ByteIs (text : List ℕ) (kind byte : ℕ) : Type 0 where
   pub is_byte : byte < 256
   pub inside : 5 ≤ length text
   pub first : take 5 text ≡ kind_field kind ++ byte_field byte
-  pub reads : byte_read kind text ≡ Stands byte
+  pub reads : byte_read kind text ≡ Ok byte
 
 zero_good : (kind : ℕ) → kind < 4 → bad_transfer kind 0 ≡ false
 unfolding bad_transfer
@@ -173,7 +171,7 @@ module _ (text : List ℕ) where
         }
 
   -- a kind stands, or it has a fault
-  kind_cases : {A : Type 0} → ((kind : ℕ) → KindIs text kind → A) → ((place : ℕ) → place ≤ 1 → kind_read text ≡ Fault BadKind place → FaultAt text BadKind place → A) → A
+  kind_cases : {A : Type 0} → ((kind : ℕ) → KindIs text kind → A) → ((place : ℕ) → place ≤ 1 → kind_read text ≡ Err (fault BadKind place) → FaultAt text BadKind place → A) → A
   unfolding kind_read
   kind_cases stands faults =
       either (ltb 3 (kind_of (text_at text 0))) (λ e. faults 0 (omega arith) (simp e) (no_letter e))
@@ -182,7 +180,7 @@ module _ (text : List ℕ) where
       (λ t. faults 1 (omega arith) (simp (e, t)) (no_tab e t)))
 
   module _ (kind : ℕ) (of : KindIs text kind) where
-    kind_again : (more : List ℕ) (place : ℕ) → place < length text → 1 ≤ place → kind_read (take (suc place) text ++ more) ≡ Stands kind
+    kind_again : (more : List ℕ) (place : ℕ) → place < length text → 1 ≤ place → kind_read (take (suc place) text ++ more) ≡ Ok kind
     kind_again more place inside after =
         kind_same text (take (suc place) text ++ more) (at_same text more place 0 inside (omega arith)) (at_same text more place 1 inside after)
         ∙ of.reads
@@ -295,7 +293,7 @@ module _ (text : List ℕ) where
 
     -- a byte stands, or it has a fault
     byte_cases : {A : Type 0} → ((byte : ℕ) → ByteIs text kind byte → A)
-        → ((place : ℕ) → 2 ≤ place → place ≤ 4 → byte_read kind text ≡ Fault BadByte place → FaultAt text BadByte place → A) → A
+        → ((place : ℕ) → 2 ≤ place → place ≤ 4 → byte_read kind text ≡ Err (fault BadByte place) → FaultAt text BadByte place → A) → A
     unfolding byte_read
     byte_cases stands faults =
         either (digit_stands kind (worth_of (text_at text 2)))
@@ -307,7 +305,7 @@ module _ (text : List ℕ) where
         (λ a. faults 2 (omega arith) (omega arith) (simp a) (no_high a))
 
 -- a wait that has a fault
-module _ (text : List ℕ) (kind byte : ℕ) (is : ByteIs text kind byte) (answer : Answer) (at : ℕ) (bad : wait_of text ≡ Bad answer at) where
+module _ (text : List ℕ) (kind byte : ℕ) (is : ByteIs text kind byte) (answer : Answer) (at : ℕ) (bad : wait_of text ≡ Err (fault answer at)) where
   halts : Halts (drop 5 text) 5 answer at
   halts = begun_halts (drop 5 text) 5 answer at (sym (wait_begun text) ∙ bad)
 
@@ -315,7 +313,7 @@ module _ (text : List ℕ) (kind byte : ℕ) (is : ByteIs text kind byte) (answe
   more_than_five : (n : ℕ) → take (5 + n) text ≡ (kind_field kind ++ byte_field byte) ++ take n (drop 5 text)
   more_than_five n = take-add 5 n text ∙ ap (λ (l : List ℕ). l ++ take n (drop 5 text)) is.first
 
-  wait_again : halts.count < length (drop 5 text) → (more : List ℕ) → wait_of (take (5 + suc halts.count) text ++ more) ≡ Bad answer at
+  wait_again : halts.count < length (drop 5 text) → (more : List ℕ) → wait_of (take (5 + suc halts.count) text ++ more) ≡ Err (fault answer at)
   unfolding kind_field byte_field
   wait_again inside more =
       wait_begun (take (5 + suc halts.count) text ++ more)
@@ -388,11 +386,11 @@ byte_begins text kind byte is =
     }
 
 -- a kind at fault does not stand
-kind_lacks : (text : List ℕ) (place : ℕ) → kind_read text ≡ Fault BadKind place → KindStands text → ⊥
+kind_lacks : (text : List ℕ) (place : ℕ) → kind_read text ≡ Err (fault BadKind place) → KindStands text → ⊥
 kind_lacks text place bad b = let good = kind_read_lem text b in let no : ◌≡◌ {A = ℕ} 0 1 = cc in omega arith
 
 -- nor does a byte
-byte_lacks : (text : List ℕ) (kind place : ℕ) → kind_read text ≡ Stands kind → byte_read kind text ≡ Fault BadByte place → ByteStands text → ⊥
+byte_lacks : (text : List ℕ) (kind place : ℕ) → kind_read text ≡ Ok kind → byte_read kind text ≡ Err (fault BadByte place) → ByteStands text → ⊥
 byte_lacks text kind place of bad b =
     let own = byte_kind_read text b in
     let same : kind ≡ b.kind = cc in
@@ -428,7 +426,7 @@ wait_begins text kind byte count wait is below digits large =
     }
 
 -- no line starts a text whose wait is at fault
-line_lacks : (text : List ℕ) (kind byte : ℕ) (answer : Answer) (at : ℕ) → ByteIs text kind byte → wait_of text ≡ Bad answer at → Starts text → ⊥
+line_lacks : (text : List ℕ) (kind byte : ℕ) (answer : Answer) (at : ℕ) → ByteIs text kind byte → wait_of text ≡ Err (fault answer at) → Starts text → ⊥
 unfolding line number_field rest_of
 line_lacks text kind byte answer at is bad s =
     let good = ap wait_of (s.stands ∙ simp append_assoc) ∙ wait_after s.kind s.byte (decimal s.wait ++ (newline ∷ s.more))
@@ -438,12 +436,12 @@ line_lacks text kind byte answer at is bad s =
     go : wait_of text ≡ rest_of (5 + length (decimal s.wait)) s.wait (newline ∷ s.more) → ⊥
     go good = let no : ◌≡◌ {A = ℕ} 0 1 = cc in omega arith
 
-module _ (text : List ℕ) (kind byte : ℕ) (is : ByteIs text kind byte) (answer : Answer) (at : ℕ) (bad : wait_of text ≡ Bad answer at) where
+module _ (text : List ℕ) (kind byte : ℕ) (is : ByteIs text kind byte) (answer : Answer) (at : ℕ) (bad : wait_of text ≡ Err (fault answer at)) where
   wait_which : Which text answer
   wait_which =
       let h = halts text kind byte is answer at bad in
       let eighteen : answer ≡ BadWait → Which text answer =
-      λ e. no_wait e (byte_begins text kind byte is) (λ w. wait_not_bad text at w (bad ∙ ap (λ (a : Answer). Bad a at) e)) in
+      λ e. no_wait e (byte_begins text kind byte is) (λ w. wait_not_bad text at w (bad ∙ ap (λ (a : Answer). Err (fault a at)) e)) in
       ⊎_elim (λ none. eighteen none.0)
       (λ some. ⊎_elim (λ digit. eighteen digit.0)
       (λ other.
@@ -459,7 +457,7 @@ module _ (text : List ℕ) (kind byte : ℕ) (is : ByteIs text kind byte) (answe
 
 -- a line is read, or it has a fault: where it is, which it is, and its number by its place
 pub line_cases : {A : Type 0} (text : List ℕ)
-    → ((kind byte wait end : ℕ) → ByteIs text kind byte → wait_of text ≡ Good wait end → A)
+    → ((kind byte wait end : ℕ) → ByteIs text kind byte → wait_of text ≡ Ok (wait, end) → A)
     → ((answer : Answer) (place : ℕ) → FaultAt text answer place → Which text answer → number_of answer ≡ number_at text place → A) → A
 line_cases {A} text stands faults =
     kind_cases text
@@ -472,7 +470,8 @@ line_cases {A} text stands faults =
     faults BadKind place fault (no_kind refl (kind_lacks text place bad))
     (sym (number_kind text fault.kind fault.byte fault.wait place few fault.first)))
   where
-    go : (kind byte : ℕ) → ByteIs text kind byte → (w : Wait) → wait_of text ≡ w → A
-    go kind byte is (Good wait end) e = stands kind byte wait end is e
-    go kind byte is (Bad answer at) e =
-        faults answer at (wait_faults text kind byte is answer at e) (wait_which text kind byte is answer at e) (wait_number text kind byte is answer at e)
+    go : (kind byte : ℕ) → ByteIs text kind byte → (w : WaitRead) → wait_of text ≡ w → A
+    go kind byte is (Ok (wait, end)) e = stands kind byte wait end is e
+    go kind byte is (Err bad) e =
+        faults bad.answer bad.offset (wait_faults text kind byte is bad.answer bad.offset e) (wait_which text kind byte is bad.answer bad.offset e)
+        (wait_number text kind byte is bad.answer bad.offset e)

@@ -1,5 +1,6 @@
 -- Laws of the parts of a line that a text starts with: a part that is written is read, and each part has the one before it.
 -- Assumes nothing.
+use Rattle.std.specs.Prelude.{Ok, Err}
 use mathlib.Core.Bool.{false}
 use mathlib.Core.List.{List, [], ◌∷◌, ◌++◌, append_assoc}
 use mathlib.Core.Path.{◌≡◌, sym, ap, ◌∙◌}
@@ -10,33 +11,31 @@ use lib.Dec.{ltb, eqb}
 use lib.ListN.{length}
 use Rattle.controller.specs.declared.answers.Answer.TheVariants.{BadWait}
 use Rattle.controller.specs.Bus.{bad_transfer}
-use Rattle.lines.specs.declared.reader.Field.TheVariants.{Stands}
-use Rattle.lines.specs.declared.reader.Wait.TheVariants.{Bad}
 use Rattle.lines.specs.Digits.{newline, digit, worth_of, decimal, byte_field, number_field}
 use Rattle.lines.specs.Line.{line, kind_field}
-use Rattle.lines.specs.Reading.{text_at, kind_read, byte_read, rest_of, wait_of}
+use Rattle.lines.specs.Reading.{fault, text_at, kind_read, byte_read, rest_of, wait_of}
 use Rattle.lines.specs.Theorems.{Starts}
 use Rattle.lines.specs.Faults.{KindStands, ByteStands, NoDigit, WaitStands}
 use Rattle.lines.proofs.Laws.Digits.{either, worth_digit, digit_worth}
 use Rattle.lines.proofs.Laws.Kinds.{kind_below, kind_letter}
-use Rattle.lines.proofs.Laws.Steps.{digit_stands_lem}
+use Rattle.lines.proofs.Laws.Steps.{digit_stands_lem, other_fault}
 use Rattle.lines.proofs.Laws.Waits.{begun, digit_above, decimal_reads, wait_begun}
 
 -- a kind that is written is read
-pub kind_written : (kind : ℕ) (rest : List ℕ) → kind < 4 → kind_read (kind_field kind ++ rest) ≡ Stands kind
+pub kind_written : (kind : ℕ) (rest : List ℕ) → kind < 4 → kind_read (kind_field kind ++ rest) ≡ Ok kind
 unfolding kind_read kind_field text_at
 kind_written kind rest below = simp (kind_letter kind below, le-ltb 3 kind (omega arith))
 
 -- and a byte
 pub byte_written : (kind byte : ℕ) (rest : List ℕ) → bad_transfer kind byte ≡ false → byte < 256
-    → byte_read kind ((kind_field kind ++ byte_field byte) ++ rest) ≡ Stands byte
+    → byte_read kind ((kind_field kind ++ byte_field byte) ++ rest) ≡ Ok byte
 unfolding byte_read kind_field byte_field text_at
 byte_written kind byte rest good is_byte =
     let high : worth_of (digit (byte / 16)) ≡ byte / 16 = worth_digit (byte / 16) (omega arith) in
     let low : worth_of (digit (byte % 16)) ≡ byte % 16 = worth_digit (byte % 16) (omega arith) in
     let first = digit_stands_lem kind byte (byte / 16) good (omega arith) (omega arith) in
     let second = digit_stands_lem kind byte (byte % 16) good (omega arith) (omega arith) in
-    simp (high, low, first, second) (ap Stands (omega arith))
+    simp (high, low, first, second) (ap (λ (n : ℕ). Ok n) (omega arith))
 
 -- and behind them a wait is begun
 pub wait_after : (kind byte : ℕ) (rest : List ℕ) → wait_of ((kind_field kind ++ byte_field byte) ++ rest) ≡ begun 5 rest
@@ -90,35 +89,35 @@ byte_kind text b =
     }
 
 -- a kind that stands is read
-pub kind_read_lem : (text : List ℕ) (b : KindStands text) → kind_read text ≡ Stands b.kind
+pub kind_read_lem : (text : List ℕ) (b : KindStands text) → kind_read text ≡ Ok b.kind
 kind_read_lem text b =
     ap kind_read b.stands ∙ kind_written b.kind b.more (kind_below b.kind b.byte b.sayable.transfer)
 
 -- and so is the kind of a byte
-pub byte_kind_read : (text : List ℕ) (b : ByteStands text) → kind_read text ≡ Stands b.kind
+pub byte_kind_read : (text : List ℕ) (b : ByteStands text) → kind_read text ≡ Ok b.kind
 unfolding byte_kind
 byte_kind_read text b = kind_read_lem text (byte_kind text b)
 
 -- and the byte
-pub byte_read_lem : (text : List ℕ) (b : ByteStands text) → byte_read b.kind text ≡ Stands b.byte
+pub byte_read_lem : (text : List ℕ) (b : ByteStands text) → byte_read b.kind text ≡ Ok b.byte
 byte_read_lem text b =
     ap (byte_read b.kind) b.stands ∙ byte_written b.kind b.byte b.more b.sayable.transfer b.sayable.is_byte
 
 -- where no digit comes next a wait's rest is not stopped by one
-no_digit : (rest : List ℕ) (place value at : ℕ) → NoDigit rest → rest_of place value rest ≡ Bad BadWait at → ⊥
+no_digit : (rest : List ℕ) (place value at : ℕ) → NoDigit rest → rest_of place value rest ≡ Err (fault BadWait at) → ⊥
 unfolding rest_of
-no_digit [] place value at none bad = let no : ◌≡◌ {A = ℕ} 0 1 = cc in omega arith
+no_digit [] place value at none bad = other_fault bad
 no_digit (byte ∷ rest) place value at none bad =
     either (eqb byte newline)
     (λ e. let good = simp e at bad in let no : ◌≡◌ {A = ℕ} 0 1 = cc in omega arith)
     (λ e. either (ltb 9 (worth_of byte))
-    (λ f. let other = simp (e, f) at bad in let no : ◌≡◌ {A = ℕ} 0 1 = cc in omega arith)
+    (λ f. other_fault (simp (e, f) at bad))
     (λ f.
     let small = ltb-false 9 (worth_of byte) f in
     none (worth_of byte) rest (omega arith) (ap (λ (b : ℕ). b ∷ rest) (sym (digit_worth byte (omega arith))))))
 
 -- so a wait that stands is not 18
-pub wait_not_bad : (text : List ℕ) (at : ℕ) → WaitStands text → wait_of text ≡ Bad BadWait at → ⊥
+pub wait_not_bad : (text : List ℕ) (at : ℕ) → WaitStands text → wait_of text ≡ Err (fault BadWait at) → ⊥
 wait_not_bad text at w bad =
     let b = w.begins in
     no_digit b.more (5 + length (decimal b.wait)) b.wait at w.all

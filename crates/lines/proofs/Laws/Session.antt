@@ -1,8 +1,8 @@
 -- Laws of a session's text: line by line, up to its end, a bad line or so many lines.
 -- Assumes nothing.
-use mathlib.Core.Bool.{Bool, true, false}
+use mathlib.Core.Bool.{true, false}
 use mathlib.Core.List.{List, [], ◌∷◌}
-use mathlib.Core.Path.{◌≡◌, refl, sym, ap, ◌∙◌}
+use mathlib.Core.Path.{◌≡◌, refl, ap}
 use Prim.Native.Nat.{ℕ, zero, suc, ◌+◌, ◌-◌, ◌<◌, ◌≤◌}
 use native.Mathlib.Omega.{arith}
 use lib.ListN.{length, take, drop, length-drop}
@@ -10,10 +10,13 @@ use lib.Seq.{take_all}
 use Rattle.controller.specs.declared.answers.Answer.TheVariants.{Done}
 use Rattle.controller.specs.Answers.{is_done}
 use Rattle.controller.proofs.Laws.Answers.{done_is}
+use Rattle.std.specs.Prelude.{Ok, Err}
+use Rattle.lines.specs.declared.reader.BadLine.{BadLine}
 use Rattle.lines.specs.declared.reader.Line.{Line}
-use Rattle.lines.specs.Reading.{line_of}
-use Rattle.lines.specs.Session.{ended_by, following, sent_of, read_up_to, session_of}
+use Rattle.lines.specs.Reading.{sent_of, told_of, line_of}
+use Rattle.lines.specs.Session.{ended_by, following, read_up_to, session_of}
 use Rattle.lines.proofs.Laws.Digits.{either}
+use Rattle.lines.proofs.Laws.Told.{told_line, told_fault}
 use Rattle.lines.proofs.Theorems.Read.{read_is_sayable}
 
 -- a line that stands has at least 7 bytes, all of them in the text
@@ -23,23 +26,37 @@ line_long text done =
     let is = read_is_sayable text (done_is (line_of text).answer done) in (is.1, is.3)
 
 -- the line at a place of a text, read from the part from there on
-module _ (text : List ℕ) (from : ℕ) (some : from < length text) {line : Line}
-    (read : line ≡ line_of (take (length text - from) (drop from text))) where
-  pub line_at : line ≡ line_of (drop from text)
-  line_at = read ∙ ap line_of (take_all (length text - from) (drop from text) (omega (arith, length-drop from text)))
+module _ (text : List ℕ) (from : ℕ) (some : from < length text) where
+  part_at : line_of (take (length text - from) (drop from text)) ≡ line_of (drop from text)
+  part_at = ap line_of (take_all (length text - from) (drop from text) (omega (arith, length-drop from text)))
 
   pub more_text : 0 < length (drop from text)
   more_text = omega (arith, length-drop from text)
 
-  pub done_at : {test : Bool} → is_done line.answer ≡ test → is_done (line_of (drop from text)).answer ≡ test
-  done_at is = ap (λ (l : Line). is_done l.answer) (sym line_at) ∙ is
+  -- where it stands, it is the transfer and the length that were told, and it lies in the text
+  module _ {line : Line} (read : Ok line ≡ told_of (line_of (take (length text - from) (drop from text)))) where
+    pub line_good : is_done (line_of (drop from text)).answer ≡ true
+    line_good = (told_line (line_of (drop from text)) (rw part_at at read)).0
 
-  -- where it stands, it lies in the text
-  pub line_inside : is_done line.answer ≡ true → (7 ≤ line.length) × (from + line.length ≤ length text)
-  line_inside good =
-      let long = line_long (drop from text) (done_at good) in
-      let size : line.length ≡ (line_of (drop from text)).length = ap (λ (l : Line). l.length) line_at in
-      (omega arith, omega (arith, length-drop from text))
+    pub line_sent : sent_of (line_of (drop from text)) ≡ line.sent
+    line_sent = (told_line (line_of (drop from text)) (rw part_at at read)).1
+
+    pub line_size : (line_of (drop from text)).length ≡ line.length
+    line_size = (told_line (line_of (drop from text)) (rw part_at at read)).2
+
+    pub line_inside : (7 ≤ line.length) × (from + line.length ≤ length text)
+    line_inside =
+        let long = line_long (drop from text) line_good in
+        let size = line_size in
+        (omega arith, omega (arith, length-drop from text))
+
+  -- and a bad one has the answer that was told
+  module _ {bad : BadLine} (read : Err bad ≡ told_of (line_of (take (length text - from) (drop from text)))) where
+    pub line_bad : is_done (line_of (drop from text)).answer ≡ false
+    line_bad = (told_fault (line_of (drop from text)) (rw part_at at read)).0
+
+    pub bad_answer : (line_of (drop from text)).answer ≡ bad.answer
+    bad_answer = (told_fault (line_of (drop from text)) (rw part_at at read)).1
 
 pub read_none : (most : ℕ) → read_up_to most [] ≡ ended_by Done
 unfolding read_up_to

@@ -1,5 +1,6 @@
 -- Laws of waits: decimal digits are read as their number, and digits that were read are those of the number.
 -- Assumes nothing.
+use Rattle.std.specs.Prelude.{Ok, Err}
 use mathlib.Core.Bool.{true, false, cond}
 use mathlib.Core.List.{List, [], ◌∷◌, ◌++◌, append_assoc, append-nil}
 use mathlib.Core.Logic.{◌⊎◌, inl, inr}
@@ -12,18 +13,16 @@ use lib.ListN.{length, take, drop, length-append}
 use lib.Seq.{drop-drop, get_or-drop, length-take-le, take_at}
 use Rattle.controller.specs.declared.answers.Answer.{Answer}
 use Rattle.controller.specs.declared.answers.Answer.TheVariants.{BadWait, NoNewline}
-use Rattle.lines.specs.declared.reader.Wait.{Wait}
-use Rattle.lines.specs.declared.reader.Wait.TheVariants.{Good, Bad}
 use Rattle.lines.specs.Digits.{newline, digit, worth_of, decimal, number_field}
 use Rattle.lines.specs.Line.{wait_limit}
-use Rattle.lines.specs.Reading.{text_at, may_follow, rest_of, wait_of}
+use Rattle.lines.specs.Reading.{WaitRead, fault, text_at, may_follow, rest_of, wait_of}
 use Rattle.lines.proofs.Laws.Digits.{either, decimal_small, decimal_split, decimal_more, decimal_length, length_split, worth_digit, digit_worth}
-use Rattle.lines.proofs.Laws.Steps.{follow_digit}
+use Rattle.lines.proofs.Laws.Steps.{follow_digit, same_wait, same_fault}
 
 -- a wait that starts here, at this place of its line
-unfoldable pub begun : ℕ → List ℕ → Wait
+unfoldable pub begun : ℕ → List ℕ → WaitRead
 begun place rest =
-    cond (ltb 9 (worth_of (text_at rest 0))) (Bad BadWait place) (rest_of (place + 1) (worth_of (text_at rest 0)) (drop 1 rest))
+    cond (ltb 9 (worth_of (text_at rest 0))) (Err (fault BadWait place)) (rest_of (place + 1) (worth_of (text_at rest 0)) (drop 1 rest))
 
 -- a line's wait starts at its sixth byte
 pub wait_begun : (text : List ℕ) → wait_of text ≡ begun 5 (drop 5 text)
@@ -84,7 +83,7 @@ pub record ReadFrom (digits : List ℕ) (place wait end : ℕ) : Type 0 where
   pub below : wait ≤ wait_limit
 
 -- a good wait that a rest gives was read from the digits before it and from that rest
-pub rest_good : (rest : List ℕ) (place value wait end : ℕ) → value ≤ wait_limit → rest_of (place + length (decimal value)) value rest ≡ Good wait end
+pub rest_good : (rest : List ℕ) (place value wait end : ℕ) → value ≤ wait_limit → rest_of (place + length (decimal value)) value rest ≡ Ok (wait, end)
     → ReadFrom (decimal value ++ rest) place wait end
 unfolding rest_of
 rest_good [] place value wait end below good = let no : ◌≡◌ {A = ℕ} 0 1 = cc in absurd (omega arith)
@@ -92,8 +91,8 @@ rest_good (byte ∷ rest) place value wait end below good =
     either (eqb byte newline)
     (λ e.
     let is = simp e at good in
-    let same : value ≡ wait = cc in
-    let last : place + length (decimal value) + 1 ≡ end = cc in
+    let same = (same_wait is).0 in
+    let last = (same_wait is).1 in
     record {
       more = rest;
       text = simp (sym same, eqb-true byte newline e);
@@ -118,7 +117,7 @@ rest_good (byte ∷ rest) place value wait end below good =
     })
     (λ may. let bad = simp (e, f, may) at good in let no : ◌≡◌ {A = ℕ} 0 1 = cc in absurd (omega arith))))
 
-begun_none : (place : ℕ) → begun place [] ≡ Bad BadWait place
+begun_none : (place : ℕ) → begun place [] ≡ Err (fault BadWait place)
 unfolding begun text_at worth_of
 begun_none place = refl
 
@@ -127,7 +126,7 @@ digit_one : (byte : ℕ) → worth_of byte ≤ 9 → decimal (worth_of byte) ≡
 digit_one byte small = decimal_small (worth_of byte) (omega arith) ∙ ap (λ (b : ℕ). b ∷ []) (digit_worth byte (omega arith))
 
 -- a good wait was read from the digits that it starts with
-pub begun_good : (rest : List ℕ) (place wait end : ℕ) → begun place rest ≡ Good wait end → ReadFrom rest place wait end
+pub begun_good : (rest : List ℕ) (place wait end : ℕ) → begun place rest ≡ Ok (wait, end) → ReadFrom rest place wait end
 unfolding begun text_at
 begun_good [] place wait end good = let none = begun_none place in let no : ◌≡◌ {A = ℕ} 0 1 = cc in absurd (omega arith)
 begun_good (byte ∷ rest) place wait end good =
@@ -153,15 +152,15 @@ pub record Stops (rest : List ℕ) (place value : ℕ) (answer : Answer) (at : �
   pub inside : count ≤ length rest
   pub digits : decimal value ++ take count rest ≡ decimal wait
   pub below : wait ≤ wait_limit
-  pub again : count < length rest → (more : List ℕ) → rest_of place value (take (suc count) rest ++ more) ≡ Bad answer at
+  pub again : count < length rest → (more : List ℕ) → rest_of place value (take (suc count) rest ++ more) ≡ Err (fault answer at)
 
 -- at once
 stops_here : (rest : List ℕ) (place value : ℕ) (told answer : Answer) (at : ℕ) → value ≤ wait_limit → Why told (text_at rest 0)
-    → Bad told place ≡ Bad answer at
-    → (0 < length rest → (more : List ℕ) → rest_of place value (take 1 rest ++ more) ≡ Bad told place) → Stops rest place value answer at
+    → ◌≡◌ {A = WaitRead} (Err (fault told place)) (Err (fault answer at))
+    → (0 < length rest → (more : List ℕ) → rest_of place value (take 1 rest ++ more) ≡ Err (fault told place)) → Stops rest place value answer at
 stops_here rest place value told answer at below why is again =
-    let here : place ≡ at = cc in
-    let same : told ≡ answer = cc in
+    let here = (same_fault is).1 in
+    let same = (same_fault is).0 in
     record {
       count = 0;
       wait = value;
@@ -178,7 +177,7 @@ past_end : 9 < worth_of (text_at [] 0)
 unfolding text_at worth_of
 past_end = lit< tt
 
-pub rest_stops_at : (rest : List ℕ) (place value : ℕ) (answer : Answer) (at : ℕ) → value ≤ wait_limit → rest_of place value rest ≡ Bad answer at
+pub rest_stops_at : (rest : List ℕ) (place value : ℕ) (answer : Answer) (at : ℕ) → value ≤ wait_limit → rest_of place value rest ≡ Err (fault answer at)
     → Stops rest place value answer at
 unfolding rest_of text_at
 rest_stops_at [] place value answer at below bad =
@@ -227,14 +226,14 @@ pub record Halts (rest : List ℕ) (place : ℕ) (answer : Answer) (at : ℕ) : 
   pub first : take count rest ≡ take count (number_field wait newline)
   pub below : wait ≤ wait_limit
   pub few : count ≤ 10
-  pub again : count < length rest → (more : List ℕ) → begun place (take (suc count) rest ++ more) ≡ Bad answer at
+  pub again : count < length rest → (more : List ℕ) → begun place (take (suc count) rest ++ more) ≡ Err (fault answer at)
 
 -- before its first digit
-halts_here : (rest : List ℕ) (place : ℕ) (answer : Answer) (at : ℕ) → Bad BadWait place ≡ Bad answer at
-    → (0 < length rest → (more : List ℕ) → begun place (take 1 rest ++ more) ≡ Bad BadWait place) → Halts rest place answer at
+halts_here : (rest : List ℕ) (place : ℕ) (answer : Answer) (at : ℕ) → ◌≡◌ {A = WaitRead} (Err (fault BadWait place)) (Err (fault answer at))
+    → (0 < length rest → (more : List ℕ) → begun place (take 1 rest ++ more) ≡ Err (fault BadWait place)) → Halts rest place answer at
 halts_here rest place answer at is again =
-    let here : place ≡ at = cc in
-    let same : answer ≡ BadWait = cc in
+    let here = (same_fault is).1 in
+    let same = sym (same_fault is).0 in
     record {
       count = 0;
       wait = 0;
@@ -247,7 +246,7 @@ halts_here rest place answer at is again =
       again = λ some more. again some more ∙ is;
     }
 
-pub begun_halts : (rest : List ℕ) (place : ℕ) (answer : Answer) (at : ℕ) → begun place rest ≡ Bad answer at → Halts rest place answer at
+pub begun_halts : (rest : List ℕ) (place : ℕ) (answer : Answer) (at : ℕ) → begun place rest ≡ Err (fault answer at) → Halts rest place answer at
 unfolding begun text_at number_field
 begun_halts [] place answer at bad = halts_here [] place answer at (sym (begun_none place) ∙ bad) (λ some. absurd (omega arith))
 begun_halts (byte ∷ rest) place answer at bad =

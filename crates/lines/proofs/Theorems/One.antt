@@ -13,9 +13,8 @@ use Rattle.controller.proofs.Laws.Tests.{tests_lt}
 use Rattle.controller.proofs.Theorems.One.{one}
 use Rattle.controller.specs.Bus.{bad_transfer}
 use Rattle.controller.specs.Answers.{number_of}
-use Rattle.lines.specs.declared.reader.Line.{Line}
 use Rattle.lines.specs.Line.{line}
-use Rattle.lines.specs.Reading.{line_of}
+use Rattle.lines.specs.Reading.{Reading, line_of}
 use Rattle.lines.specs.Writing.{line_writing, wanting}
 use Rattle.lines.specs.Theorems.{line_read, OneReading, writer_rows, WriterAnswers, wanting_rows, TextAnswers, OneWriting, OneRead}
 use Rattle.lines.proofs.Laws.Digits.{either}
@@ -25,10 +24,10 @@ pub one_reading : OneReading
 one_reading kind byte wait kind' byte' wait' more more' can can' same =
     let both : line_read kind byte wait ≡ line_read kind' byte' wait' =
     sym (written_reads_back kind byte wait more can) ∙ ap line_of same ∙ written_reads_back kind' byte' wait' more' can' in
-    let k = ap (λ (l : Line). l.kind) both in
-    let b = ap (λ (l : Line). l.byte) both in
-    let w = ap (λ (l : Line). l.wait) both in
-    let n = ap (λ (l : Line). l.length) both in (
+    let k = ap (λ (l : Reading). l.kind) both in
+    let b = ap (λ (l : Reading). l.byte) both in
+    let w = ap (λ (l : Reading). l.wait) both in
+    let n = ap (λ (l : Reading). l.length) both in (
       k,
       b,
       w,

@@ -1,6 +1,7 @@
 -- A line that was read stands at the start of its text, is that of a transfer that a line can say, and is written out the same; a
 -- text that is refused has its fault at the first byte that cannot stand.
 -- Assumes nothing.
+use Rattle.std.specs.Prelude.{Ok}
 use mathlib.Core.List.{List, [], ◌++◌, append_assoc, append-nil}
 use mathlib.Core.Logic.{inl, inr, ⊎_elim}
 use mathlib.Core.Path.{◌≡◌, refl, sym, ap, subst, ◌∙◌}
@@ -15,11 +16,9 @@ use Rattle.controller.proofs.Laws.Answers.{applies_here, applies_later, none_app
 use Rattle.controller.specs.declared.answers.Answer.{Answer}
 use Rattle.controller.specs.declared.answers.Answer.TheVariants.{Done}
 use Rattle.controller.specs.Answers.{number_of, Row, Tells}
-use Rattle.lines.specs.declared.reader.Line.{Line}
-use Rattle.lines.specs.declared.reader.Wait.TheVariants.{Good}
 use Rattle.lines.specs.Digits.{newline, number_field}
 use Rattle.lines.specs.Line.{line}
-use Rattle.lines.specs.Reading.{wait_of, refused_line, with_wait, with_byte, with_kind, line_of}
+use Rattle.lines.specs.Reading.{Reading, fault, wait_of, refused_line, with_wait, with_byte, with_kind, line_of}
 use Rattle.lines.specs.Writing.{wanting, line_writing}
 use Rattle.lines.specs.Theorems.{Sayable, Starts, ReadWritesBack, ReadIsSayable}
 use Rattle.lines.specs.Faults.{ReaderAnswers, ReadOrRefused, FirstThatCannotStand, OneOffset, NumberByPlace}
@@ -32,7 +31,7 @@ use Rattle.lines.proofs.Laws.Waits.{wait_begun, ReadFrom, begun_good}
 use Rattle.lines.proofs.Theorems.Written.{written_reads_back}
 
 -- the line's own bytes are those of the transfer that was read
-module _ (text : List ℕ) (kind byte wait end : ℕ) (is : ByteIs text kind byte) (good : wait_of text ≡ Good wait end) where
+module _ (text : List ℕ) (kind byte wait end : ℕ) (is : ByteIs text kind byte) (good : wait_of text ≡ Ok (wait, end)) where
   from : ReadFrom (drop 5 text) 5 wait end
   from = begun_good (drop 5 text) 5 wait end (sym (wait_begun text) ∙ good)
 
@@ -70,11 +69,11 @@ module _ (text : List ℕ) (kind byte wait end : ℕ) (is : ByteIs text kind byt
 -- a text that starts with a line is read
 starts_read : (text : List ℕ) → Starts text → (line_of text).answer ≡ Done
 starts_read text s =
-    ap (λ (l : Line). l.answer) (ap line_of s.stands ∙ written_reads_back s.kind s.byte s.wait s.more s.sayable)
+    ap (λ (l : Reading). l.answer) (ap line_of s.stands ∙ written_reads_back s.kind s.byte s.wait s.more s.sayable)
 
 -- so one that is refused starts with none
 not_started : (text : List ℕ) (answer : Answer) (place : ℕ) → (answer ≡ Done → ⊥) → line_of text ≡ refused_line answer place → Starts text → ⊥
-not_started text answer place other bad s = other (ap (λ (l : Line). l.answer) (sym bad) ∙ starts_read text s)
+not_started text answer place other bad s = other (ap (λ (l : Reading). l.answer) (sym bad) ∙ starts_read text s)
 
 -- each fault has one of the four numbers
 which_fault : (text : List ℕ) (answer : Answer) → Which text answer → IsFault answer
@@ -92,7 +91,7 @@ read_or_refused text =
     line_cases text
     (λ kind byte wait end is good.
     let read = reads text kind byte wait end is good in
-    inl (starts text kind byte wait end is good, ap (λ (l : Line). l.answer) read, ap (λ (l : Line). l.offset) read))
+    inl (starts text kind byte wait end is good, ap (λ (l : Reading). l.answer) read, ap (λ (l : Reading). l.offset) read))
     (λ answer place fault which _.
     let one = which_fault text answer which in
     inr (
@@ -102,17 +101,17 @@ read_or_refused text =
 
 -- what is known of a text that is read
 read_by : {A : Type 0} (text : List ℕ) → (line_of text).answer ≡ Done
-    → ((kind byte wait end : ℕ) → ByteIs text kind byte → wait_of text ≡ Good wait end → A) → A
+    → ((kind byte wait end : ℕ) → ByteIs text kind byte → wait_of text ≡ Ok (wait, end) → A) → A
 read_by text done by =
     line_cases text by
     (λ answer place fault which _.
-    absurd (fault_not_done answer (which_fault text answer which) (sym (ap (λ (l : Line). l.answer) fault.reads) ∙ done)))
+    absurd (fault_not_done answer (which_fault text answer which) (sym (ap (λ (l : Reading). l.answer) fault.reads) ∙ done)))
 
 -- and of one that is refused
 refused_by : {A : Type 0} (text : List ℕ) → ((line_of text).answer ≡ Done → ⊥)
     → ((answer : Answer) (place : ℕ) → FaultAt text answer place → Which text answer → number_of answer ≡ number_at text place → A) → A
 refused_by text refused by =
-    line_cases text (λ kind byte wait end is good. absurd (refused (ap (λ (l : Line). l.answer) (reads text kind byte wait end is good)))) by
+    line_cases text (λ kind byte wait end is good. absurd (refused (ap (λ (l : Reading). l.answer) (reads text kind byte wait end is good)))) by
 
 pub read_is_sayable : ReadIsSayable
 read_is_sayable text done =
@@ -174,7 +173,7 @@ offset_few text =
     (λ kind byte wait end is good. rw (reads text kind byte wait end is good) (omega arith))
     (λ answer place fault _ _. rw fault.reads fault.few)
 
-pub offset_told : (read : Line) (text : List ℕ) → read ≡ line_of text → read.offset ≤ 15
+pub offset_told : (read : Reading) (text : List ℕ) → read ≡ line_of text → read.offset ≤ 15
 offset_told read text is = rw is (offset_few text)
 
 -- what completes a text completes its first bytes

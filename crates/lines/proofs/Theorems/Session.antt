@@ -15,10 +15,9 @@ use Rattle.controller.specs.Answers.{is_done, number_of}
 use Rattle.controller.specs.declared.sent.Sent.{Sent}
 use Rattle.controller.proofs.Laws.Answers.{applies_later, done_is, given_alike, none_applies, tells_as}
 use Rattle.controller.proofs.Laws.Tests.{Tests}
-use Rattle.lines.specs.declared.reader.Line.{Line}
 use Rattle.lines.specs.Line.{line, lines_of}
-use Rattle.lines.specs.Reading.{line_of}
-use Rattle.lines.specs.Session.{Session, following, sent_of, session_of}
+use Rattle.lines.specs.Reading.{Reading, sent_of, line_of}
+use Rattle.lines.specs.Session.{Session, following, session_of}
 use Rattle.lines.specs.Theorems.{AllSayable, Sayable, Starts, line_read, SessionReadsBack, NoSession}
 use Rattle.lines.specs.Faults.{KindStands, ByteStands, WaitStands, fault_rows, IsFault, BadLineIn, SessionAnswers}
 use Rattle.lines.proofs.Laws.Digits.{either}
@@ -42,8 +41,8 @@ session_reads_back (t ∷ ts) more can =
     let read = written_reads_back t.kind t.byte t.wait rest can.0 in
     let some : 0 < length (own ++ rest) = omega (arith, length-append own rest, line_length_lem t.kind t.byte t.wait) in
     ap session_of (append_assoc own (lines_of ts) more)
-    ∙ session_more (own ++ rest) some (ap (λ (l : Line). is_done l.answer) read ∙ is_done_lem)
-    ∙ ap (λ (l : Line). following (sent_of l) (session_of (drop l.length (own ++ rest)))) read
+    ∙ session_more (own ++ rest) some (ap (λ (l : Reading). is_done l.answer) read ∙ is_done_lem)
+    ∙ ap (λ (l : Reading). following (sent_of l) (session_of (drop l.length (own ++ rest)))) read
     ∙ ap (λ (l : List ℕ). following t (session_of l)) (drop-append_seam own rest)
     ∙ ap (following t) (session_reads_back ts more can.1)
 

@@ -2,7 +2,7 @@
 -- Assumes nothing.
 use mathlib.Core.Path.{refl, ap, ◌∙◌}
 use native.Mathlib.Omega.{arith}
-use Rattle.controller.specs.declared.answers.Answer.TheVariants.{Done}
+use Rattle.std.specs.Prelude.{Ok}
 use Rattle.lines.specs.Text.{Put}
 use Rattle.lines.proofs.Laws.Buffer.{put_whole, sets_onto}
 use Rattle.lines.specs.Writing.{wanting}
@@ -22,10 +22,10 @@ returns c =
     let asked = call in
     let out = asked.args.out.now in
     let enough = asked.if-out-lt20.false in
-    let done = call.put_text-length.ensures ∙ put_whole 0 out header (omega arith) in
+    let done = call.put_text.ensures ∙ put_whole 0 out header (omega arith) in
     simp (le-ltb _ _ enough)
     (record {
-      told = ap (λ (p : Put). record { answer = Done; length = p.at }) done;
+      told = ap (λ (p : Put). Ok p.at) done;
       number = refl;
       buffer = ap (λ (p : Put). p.out) done ∙ sets_onto header out (omega arith);
     })

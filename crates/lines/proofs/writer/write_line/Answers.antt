@@ -27,7 +27,7 @@ returns c =
     let fits = line_fits start.args.kind start.args.byte start.args.wait (omega arith) in
     simp (le-ltb _ _ long.if-out-lt16.false, sym long.is_bad.ensures ∙ long.if-is_bad.false)
     (record {
-      told = simp put.put_line-length.ensures.0;
+      told = simp put.put_line.ensures.0;
       number = refl;
-      buffer = put.put_line-length.ensures.1 ∙ sets_onto (line start.args.kind start.args.byte start.args.wait) start.args.out.now (omega arith);
+      buffer = put.put_line.ensures.1 ∙ sets_onto (line start.args.kind start.args.byte start.args.wait) start.args.out.now (omega arith);
     })

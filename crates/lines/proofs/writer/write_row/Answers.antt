@@ -23,9 +23,9 @@ returns c =
     let fits = row_fits start.args.number start.args.answer start.args.byte start.args.busy (omega arith) (omega arith) (omega arith) in
     simp (le-ltb _ _ long.if-out-lt42.false)
     (record {
-      told = simp put.put_row-length.ensures.0;
+      told = simp put.put_row.ensures.0;
       number = refl;
       buffer =
-          put.put_row-length.ensures.1
+          put.put_row.ensures.1
           ∙ sets_onto (row start.args.number start.args.answer start.args.byte start.args.busy) start.args.out.now (omega arith);
     })
