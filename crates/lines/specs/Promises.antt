@@ -63,3 +63,7 @@ PutAnswerPromise out at answer returned after = put returned after ≡ putting (
 -- `first`: the first bytes, so many, or all where there are fewer.
 abbrev pub FirstPromise : List ℕ → ℕ → List ℕ → Type 0
 FirstPromise bytes count returned = returned ≡ take count bytes
+
+-- `words_of`: the answer's words.
+abbrev pub WordsOfPromise : Answer → List ℕ → Type 0
+WordsOfPromise answer returned = returned ≡ answer_words answer

@@ -12,5 +12,5 @@ mod writer;
 pub use digits::{hex_digit, three_digits, worth_of};
 pub use reader::{BadLine, Line, read_line};
 pub use text::{first, put_byte, put_hex, put_number, put_text};
-pub use words::put_answer;
+pub use words::{put_answer, words_of};
 pub use writer::{write_header, write_line, write_row};

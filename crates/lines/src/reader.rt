@@ -4,7 +4,7 @@ ghost use Rattle.std.specs.Prelude.{◌≡◌, ◌<◌, ◌≤◌, false, drop, 
 ghost use Rattle.controller.specs.Answers.{is_done};
 ghost use Rattle.lines.specs.Line.{wait_limit};
 ghost use Rattle.lines.specs.Promises.{ReadLinePromise};
-ghost use Rattle.lines.specs.Reading.{byte_read, digit_read, kind_read, may_follow, rest_of, text_at, wait_of};
+ghost use Rattle.lines.specs.Reading.{byte_read, digit_read, fault, kind_read, may_follow, rest_of, text_at, wait_of};
 
 use crate::digits::{decimal_worth, kind_of, worth_of};
 use controller::{Answer, Sent};
@@ -24,6 +24,12 @@ pub struct BadLine {
     pub offset: usize,
 }
 
+fn fault(answer: Answer, offset: usize) -> BadLine
+    ensures { result ≡ fault answer offset }
+{
+    BadLine { answer, offset }
+}
+
 // The byte at a place, and 00h past the end.
 #[tactic(auto, unfolding(crate::specs::Reading::text_at))]
 fn text_at(text: &[u8], place: usize) -> u8
@@ -39,10 +45,10 @@ fn read_kind(text: &[u8]) -> Result<u8, BadLine>
     ensures fault { IfErr result (λ bad. is_done bad.answer ≡ false) }
 {
     let Some(kind) = kind_of(text_at(text, 0)) else {
-        return Err(BadLine { answer: Answer::BadKind, offset: 0 });
+        return Err(fault(Answer::BadKind, 0));
     };
     if text_at(text, 1) != b'\t' {
-        return Err(BadLine { answer: Answer::BadKind, offset: 1 });
+        return Err(fault(Answer::BadKind, 1));
     }
     Ok(kind)
 }
@@ -56,7 +62,7 @@ fn read_digit(kind: u8, text: &[u8], offset: usize) -> Result<u8, BadLine>
 {
     match worth_of(text_at(text, offset)) {
         Some(worth) if kind < 2 || worth == 0 => Ok(worth),
-        _ => Err(BadLine { answer: Answer::BadByte, offset }),
+        _ => Err(fault(Answer::BadByte, offset)),
     }
 }
 
@@ -69,7 +75,7 @@ fn read_byte(kind: u8, text: &[u8]) -> Result<u8, BadLine>
     let high = read_digit(kind, text, 2)?;
     let low = read_digit(kind, text, 3)?;
     if text_at(text, 4) != b'\t' {
-        return Err(BadLine { answer: Answer::BadByte, offset: 4 });
+        return Err(fault(Answer::BadByte, 4));
     }
     Ok(high * 16 + low)
 }
@@ -88,23 +94,21 @@ fn read_rest(text: &[u8], first: u8) -> Result<(u32, usize), BadLine>
     ensures rest { result ≡ rest_of 6 first (drop 6 text.now) }
     ensures fault { IfErr result (λ bad. is_done bad.answer ≡ false) }
 {
-    let mut place = 6;
     let mut value = first as u64;
-    while place < text.len() {
+    for place in 6..text.len() {
         let byte = text[place];
         if byte == b'\n' {
             return Ok((value as u32, place + 1));
         }
         let Some(worth) = decimal_worth(byte) else {
-            return Err(BadLine { answer: Answer::NoNewline, offset: place });
+            return Err(fault(Answer::NoNewline, place));
         };
         if !may_follow(value, worth) {
-            return Err(BadLine { answer: Answer::BadWait, offset: place });
+            return Err(fault(Answer::BadWait, place));
         }
         value = value * 10 + worth as u64;
-        place += 1;
     }
-    Err(BadLine { answer: Answer::NoNewline, offset: place })
+    Err(fault(Answer::NoNewline, text.len().max(6)))
 }
 
 // The wait: a first digit, and its rest.
@@ -114,7 +118,7 @@ fn read_wait(text: &[u8]) -> Result<(u32, usize), BadLine>
     ensures fault { IfErr result (λ bad. is_done bad.answer ≡ false) }
 {
     let Some(first) = decimal_worth(text_at(text, 5)) else {
-        return Err(BadLine { answer: Answer::BadWait, offset: 5 });
+        return Err(fault(Answer::BadWait, 5));
     };
     read_rest(text, first)
 }
@@ -127,5 +131,8 @@ pub fn read_line(text: &[u8]) -> Result<Line, BadLine>
     let kind = read_kind(text)?;
     let byte = read_byte(kind, text)?;
     let (wait, length) = read_wait(text)?;
-    Ok(Line { sent: Sent { kind, byte, wait }, length })
+    Ok(Line {
+        sent: Sent { kind, byte, wait },
+        length,
+    })
 }

@@ -21,10 +21,8 @@ pub fn put_text(out: &mut [u8], at: usize, text: &[u8]) -> usize
     ensures { PutTextPromise out.old at text.now result out.new }
 {
     let mut next = at;
-    let mut i = 0;
-    while i < text.len() {
-        next = put_byte(out, next, text[i]);
-        i += 1;
+    for &byte in text {
+        next = put_byte(out, next, byte);
     }
     next
 }
@@ -50,8 +48,5 @@ pub fn put_hex(out: &mut [u8], at: usize, byte: u8) -> usize
 pub fn first(bytes: &[u8], count: usize) -> &[u8]
     ensures { FirstPromise bytes.now count result.now }
 {
-    if bytes.len() < count {
-        return bytes;
-    }
-    &bytes[..count]
+    bytes.get(..count).unwrap_or(bytes)
 }

@@ -43,7 +43,13 @@ pub fn write_line(kind: u8, byte: u8, wait: u32, out: &mut [u8]) -> Result<usize
 }
 
 // A report's row, into a buffer of at least 42 bytes.
-pub fn write_row(number: u64, answer: u8, byte: u8, busy: u32, out: &mut [u8]) -> Result<usize, Answer>
+pub fn write_row(
+    number: u64,
+    answer: u8,
+    byte: u8,
+    busy: u32,
+    out: &mut [u8],
+) -> Result<usize, Answer>
     ensures { WriteRowPromise number answer byte busy out.old result out.new }
 {
     if out.len() < 42 {
