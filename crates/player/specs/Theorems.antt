@@ -1,6 +1,6 @@
 -- What is proved of sessions and their reports: each theorem is a type here, and its proof stands in proofs/Theorems.
 -- Assumes nothing.
-use Rattle.std.specs.Prelude.{true, false, List, [], ◌∷◌, ◌++◌, map, ◌⊎◌, ◌↔◌, ◌≡◌, ℕ, ◌+◌, ◌*◌, ◌^◌, ◌<◌, ◌≤◌, length, drop}
+use Rattle.std.specs.Prelude.{true, false, List, [], ◌∷◌, ◌++◌, map, ◌⊎◌, ◌↔◌, ◌≡◌, ℕ, ◌+◌, ◌*◌, ◌^◌, ◌<◌, ◌≤◌, length, drop, Result}
 use Rattle.controller.specs.declared.answers.Answer.{Answer}
 use Rattle.controller.specs.declared.answers.Answer.TheVariants.{Done}
 use Rattle.controller.specs.Answers.{is_refusal, number_of, Row, Tells}
@@ -9,7 +9,6 @@ use Rattle.controller.specs.declared.oscillator.Frequency.{Frequency}
 use Rattle.controller.specs.declared.sent.Sent.{Sent}
 use Rattle.controller.specs.Runs.{State, Heard, decided_of, heard, ran}
 use Rattle.controller.specs.Times.{WithinRange}
-use Rattle.lines.specs.declared.writer.Written.{Written}
 use Rattle.lines.specs.Line.{lines_of}
 use Rattle.lines.specs.ReportText.{header, row}
 use Rattle.lines.specs.Theorems.{AllSayable, Starts, NoSession}
@@ -89,7 +88,7 @@ BadLineEnds =
 -- No second answer fits.
 abbrev pub OnePlay : Type 0
 OnePlay =
-    (frequency : Frequency) (text out : List ℕ) (a b : Written) (x y : List ℕ)
+    (frequency : Frequency) (text out : List ℕ) (a b : Result ℕ Answer) (x y : List ℕ)
     → Writes (playing frequency text out) out a x → Writes (playing frequency text out) out b y → (a ≡ b) × (x ≡ y)
 
 -- And two standings that both are what play_through promises are one.

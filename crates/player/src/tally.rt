@@ -23,6 +23,7 @@ pub fn no_refusal() -> Tally
 }
 
 // With the answer to one line more.
+#[tactic(auto, unfolding(crate::specs::Standing::counting))]
 pub fn counted(tally: Tally, line: u64, answer: Answer) -> Tally
     requires { tally.count < line }
     ensures { result ≡ counting tally line answer }
@@ -37,7 +38,8 @@ pub fn counted(tally: Tally, line: u64, answer: Answer) -> Tally
             answer,
         };
     }
-    let mut next = tally;
-    next.count = tally.count + 1;
-    next
+    Tally {
+        count: tally.count + 1,
+        ..tally
+    }
 }

@@ -26,27 +26,23 @@ pub fn play_through(text: &[u8], frequency: Frequency, most: u64) -> Standing
 {
     let mut memory = [0u8; 144];
     let begun = reset(after_reset(frequency), &mut memory);
-    let rec = begun.rec;
     let start = Place {
         from: 0,
         at: 0,
         number: 1,
-        rec,
+        rec: begun.rec,
         tally: no_refusal(),
     };
     let ended = walk(text, false, most, start, &mut memory, &mut []);
-    let answer = ended.answer;
-    let rec = ended.place.rec;
-    let tally = ended.place.tally;
-    let first_answer = tally.answer;
+    let place = ended.place;
     Standing {
-        answer,
-        number: ended.place.number,
-        from: ended.place.from,
-        rec,
+        answer: ended.answer,
+        number: place.number,
+        from: place.from,
+        rec: place.rec,
         memory,
-        refusals: tally.count,
-        first: tally.first,
-        first_answer,
+        refusals: place.tally.count,
+        first: place.tally.first,
+        first_answer: place.tally.answer,
     }
 }

@@ -6,7 +6,7 @@ ghost use Rattle.player.specs.Walk.{HasRoom, Played, RowTold, ended_at, room, wa
 
 use crate::tally::{Tally, counted};
 use controller::{Answer, Record, is_done, number, transfer};
-use lines::{Line, read_line, write_row};
+use lines::{read_line, write_row};
 
 // A place between two lines: the bytes of the text that are read, the bytes of the report that are written, the number of
 // the next line, the record, and the refusals so far.
@@ -42,8 +42,7 @@ fn tell(
     if !rows {
         return at;
     }
-    let written = write_row(line, number(answer), byte, busy, &mut out[at..]);
-    at + written.length
+    at + write_row(line, number(answer), byte, busy, &mut out[at..]).unwrap_or(0)
 }
 
 // Plays the line at a place. A bad one is told, and nothing is sent.
@@ -52,40 +51,43 @@ fn play_line(text: &[u8], rows: bool, place: Place, memory: &mut [u8], out: &mut
     ensures { Played rows text.now place memory.old out.old
         result memory.new out.new }
 {
-    let from = place.from;
-    let line = read_line(&text[from..]);
-    let answer = line.answer;
-    if !is_done(answer) {
-        let mut last = place;
-        last.at = tell(rows, place.number, answer, 0, place.rec.busy, out, place.at);
-        return Ended {
-            answer,
-            place: last,
-        };
-    }
-    let rec = place.rec;
-    let outcome = transfer(rec, memory, line.kind, line.byte, line.wait);
-    let told = outcome.answer;
-    let rec = outcome.rec;
+    let line = match read_line(&text[place.from..]) {
+        Ok(line) => line,
+        Err(bad) => {
+            let at = tell(
+                rows,
+                place.number,
+                bad.answer,
+                0,
+                place.rec.busy,
+                out,
+                place.at,
+            );
+            return Ended {
+                answer: bad.answer,
+                place: Place { at, ..place },
+            };
+        }
+    };
+    let sent = line.sent;
+    let told = transfer(place.rec, memory, sent.kind, sent.byte, sent.wait);
     let at = tell(
         rows,
         place.number,
-        told,
-        outcome.byte,
-        rec.busy,
+        told.answer,
+        told.byte,
+        told.rec.busy,
         out,
         place.at,
     );
-    let before = place.tally;
-    let tally = counted(before, place.number, told);
     Ended {
-        answer,
+        answer: Answer::Done,
         place: Place {
-            from: from + line.length,
+            from: place.from + line.length,
             at,
             number: place.number + 1,
-            rec,
-            tally,
+            rec: told.rec,
+            tally: counted(place.tally, place.number, told.answer),
         },
     }
 }
@@ -104,16 +106,15 @@ pub fn walk(
         ≡ walked_from rows most text.now start memory.old out.old }
 {
     let mut place = start;
-    let mut left = most;
-    while 0 < left && place.from < text.len() {
+    for _played in 0..most {
+        if text.len() <= place.from {
+            break;
+        }
         let ended = play_line(text, rows, place, memory, out);
-        let answer = ended.answer;
-        if !is_done(answer) {
+        if !is_done(ended.answer) {
             return ended;
         }
-        let next = ended.place;
-        place = next;
-        left -= 1;
+        place = ended.place;
     }
     Ended {
         answer: Answer::Done,

@@ -24,9 +24,9 @@ use Rattle.controller.specs.Record.{sound, reset_record}
 use Rattle.controller.proofs.Laws.Oscillator.{fitted_in, fitted_within}
 use Rattle.controller.proofs.Theorems.Sound.{reset_sound, transfer_keeps_sound}
 use Rattle.lines.specs.Line.{line, lines_of}
-use Rattle.lines.specs.Reading.{line_of}
+use Rattle.lines.specs.Reading.{sent_of, line_of}
 use Rattle.lines.specs.ReportText.{header, row}
-use Rattle.lines.specs.Session.{Session, ended_by, following, sent_of}
+use Rattle.lines.specs.Session.{Session, ended_by, following}
 use Rattle.lines.proofs.Laws.Digits.{either}
 use Rattle.lines.proofs.Theorems.Read.{read_is_sayable}
 use Rattle.player.specs.declared.tally.Tally.{Tally}

@@ -13,9 +13,9 @@ use Rattle.controller.proofs.Laws.Answers.{number_below}
 use Rattle.controller.proofs.Laws.Record.{sound_busy}
 use Rattle.controller.specs.Runs.{State, decided_of, after, told_of}
 use Rattle.controller.specs.Answers.{is_done, number_of}
-use Rattle.lines.specs.Reading.{line_of}
+use Rattle.lines.specs.Reading.{sent_of, line_of}
 use Rattle.lines.specs.ReportText.{header, row, row_size}
-use Rattle.lines.specs.Session.{sent_of, session_of}
+use Rattle.lines.specs.Session.{session_of}
 use Rattle.lines.proofs.Laws.Lengths.{row_fits}
 use Rattle.lines.proofs.Laws.Digits.{either}
 use Rattle.lines.proofs.Laws.Session.{line_long, session_none, session_more, session_bad}

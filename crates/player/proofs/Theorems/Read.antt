@@ -9,11 +9,10 @@ use lib.Seq.{drop-append_seam}
 use Rattle.controller.specs.declared.answers.Answer.TheVariants.{Done}
 use Rattle.controller.specs.Answers.{is_done}
 use Rattle.controller.specs.declared.sent.Sent.{Sent}
-use Rattle.lines.specs.declared.reader.Line.{Line}
 use Rattle.lines.specs.Line.{line, lines_of}
-use Rattle.lines.specs.Reading.{line_of}
+use Rattle.lines.specs.Reading.{Reading, sent_of, line_of}
 use Rattle.lines.specs.Theorems.{AllSayable}
-use Rattle.lines.specs.Session.{Session, following, sent_of, read_up_to, session_of}
+use Rattle.lines.specs.Session.{Session, following, read_up_to, session_of}
 use Rattle.lines.proofs.Laws.Digits.{either}
 use Rattle.lines.proofs.Laws.Lengths.{line_length_lem}
 use Rattle.lines.proofs.Theorems.Written.{written_reads_back}
@@ -71,8 +70,8 @@ read_first (t ∷ ts) more can =
     let read = written_reads_back t.kind t.byte t.wait rest can.0 in
     let some : 0 < length (own ++ rest) = omega (arith, length-append own rest, line_length_lem t.kind t.byte t.wait) in
     ap (read_up_to (suc (length ts))) (append_assoc own (lines_of ts) more)
-    ∙ read_more (length ts) (own ++ rest) some (ap (λ (l : Line). is_done l.answer) read ∙ is_done_lem)
-    ∙ ap (λ (l : Line). following (sent_of l) (read_up_to (length ts) (drop l.length (own ++ rest)))) read
+    ∙ read_more (length ts) (own ++ rest) some (ap (λ (l : Reading). is_done l.answer) read ∙ is_done_lem)
+    ∙ ap (λ (l : Reading). following (sent_of l) (read_up_to (length ts) (drop l.length (own ++ rest)))) read
     ∙ ap (λ (l : List ℕ). following t (read_up_to (length ts) l)) (drop-append_seam own rest)
     ∙ ap (following t) (read_first ts more can.1)
 

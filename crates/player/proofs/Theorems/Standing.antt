@@ -13,8 +13,8 @@ use Rattle.controller.proofs.Laws.Memory.{performed_length}
 use Rattle.controller.proofs.Laws.Oscillator.{fitted_in}
 use Rattle.controller.proofs.Theorems.Times.{transfer_keeps_frequency}
 use Rattle.controller.specs.Answers.{is_done}
-use Rattle.lines.specs.Reading.{line_of}
-use Rattle.lines.specs.Session.{sent_of, read_up_to}
+use Rattle.lines.specs.Reading.{sent_of, line_of}
+use Rattle.lines.specs.Session.{read_up_to}
 use Rattle.lines.proofs.Laws.Digits.{either}
 use Rattle.lines.proofs.Laws.Session.{read_none, read_enough, read_more, read_bad}
 use Rattle.player.specs.Report.{start}

@@ -13,12 +13,10 @@ overflow_add-result c =
     let begin = write in
     let told =
     tells_row {rows = begin.args.rows} {out = begin.args.out.now} begin.args.answer begin.args.byte (omega arith) (omega arith)
-    (write.if-not-rows.false) write.number.ensures begin.requires write.write_row-written.ensures in
+    (write.if-not-rows.false) write.number.ensures begin.requires write.write_row.ensures in
     omega (arith, told.small, begin.requires)
 
 pub returns : goal.returns
 returns c =
-    let write = c in
-    let begin = write in
-    tells_row begin.args.answer begin.args.byte (omega arith) (omega arith)
-    (write.if-not-rows.false) write.number.ensures begin.requires write.write_row-written.ensures
+    rw c.unwrap_or.ensures
+    (tells_row c.args.answer c.args.byte (omega arith) (omega arith) c.if-not-rows.false c.number.ensures c.requires c.write_row.ensures)
