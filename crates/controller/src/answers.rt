@@ -2,7 +2,7 @@
 ghost use Rattle.controller.specs.Promises.{IsDonePromise, IsRefusalPromise, NumberPromise};
 
 // A name for each row of the table "What each number says".
-#[derive(Clone, Copy)]
+#[derive(Clone, Copy, PartialEq, Eq)]
 pub enum Answer {
     Done,
     Unsound,
@@ -58,22 +58,16 @@ pub fn number(answer: Answer) -> u8
 pub fn is_done(answer: Answer) -> bool
     ensures { IsDonePromise answer result }
 {
-    number(answer) == 0
+    answer == Answer::Done
 }
 
 // Whether the answer is a refusal: all but 0, 5, 7 and 8 are.
+#[tactic(auto, unfolding(crate::specs::Answers::is_refusal))]
 pub fn is_refusal(answer: Answer) -> bool
     ensures { IsRefusalPromise answer result }
 {
-    let told = number(answer);
-    if told == 0 {
-        return false;
-    }
-    if told == 5 {
-        return false;
-    }
-    if told == 7 {
-        return false;
-    }
-    told != 8
+    !matches!(
+        answer,
+        Answer::Done | Answer::FirstHalf | Answer::StaleRead | Answer::CrossedHalves
+    )
 }

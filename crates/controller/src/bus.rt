@@ -11,6 +11,7 @@ use crate::halves::accept;
 use crate::record::{Half, Record, after_reset, after_wait, is_sound};
 
 // Whether a lent memory, or the marks or values of a wish, are 144 bytes.
+#[tactic(auto, unfolding(crate::specs::Bus::whole))]
 pub fn is_whole(memory: &[u8]) -> bool
     ensures { IsWholePromise memory.now result }
 {
@@ -18,96 +19,86 @@ pub fn is_whole(memory: &[u8]) -> bool
 }
 
 // A kind above 3, or a read with a byte.
+#[tactic(auto, unfolding(crate::specs::Bus::bad_transfer))]
 pub fn is_bad(kind: u8, byte: u8) -> bool
     ensures { IsBadPromise kind byte result }
 {
     3 < kind || (2 <= kind && 0 < byte)
 }
 
-fn is_empty(half: Half) -> bool
-    ensures { result ≡ no_half half }
-{
-    match half {
-        Half::Empty => true,
-        Half::InstructionWrite(_) => false,
-        Half::DataWrite(_) => false,
-        Half::StatusRead(_) => false,
-        Half::DataRead(_) => false,
-    }
-}
-
 // With no half waiting and busy above 0, anything but a status read must wait.
+#[tactic(auto, unfolding(crate::specs::Bus::must_wait))]
 fn must_wait(kind: u8, rec: Record) -> bool
     ensures { result ≡ must_wait kind rec }
 {
-    let half = rec.half;
-    is_empty(half) && (0 < rec.busy && kind != 2)
+    rec.half == Half::Empty && 0 < rec.busy && kind != 2
 }
 
 // The refusals that come after the wait, 4 and 9. `rec` is the record as found, `later` the same after the wait.
+#[tactic(auto, unfolding(crate::specs::Bus::ordered))]
 fn decide_later(memory: &[u8], kind: u8, byte: u8, rec: Record, later: Record) -> Decision
     requires { Ready later memory.now }
     ensures { result ≡ ordered memory.now kind byte rec later }
 {
-    let counter = rec.counter;
     if must_wait(kind, later) {
-        return refuse(Answer::Busy, later);
+        refuse(Answer::Busy, later)
+    } else if !on_cell(rec.counter) {
+        refuse(Answer::CounterOff, rec)
+    } else {
+        accept(memory, kind, byte, later)
     }
-    if !on_cell(counter) {
-        return refuse(Answer::CounterOff, rec);
-    }
-    accept(memory, kind, byte, later)
 }
 
 // What a transfer comes to. Refusals 1, 2 and 3 come before the wait and leave the record as found.
+#[tactic(auto, unfolding(crate::specs::Bus::decided))]
 fn decide(rec: Record, memory: &[u8], kind: u8, byte: u8, wait: u32) -> Decision
     ensures { result ≡ decided rec memory.now kind byte wait }
 {
     if !is_sound(rec) {
-        return refuse(Answer::Unsound, rec);
+        refuse(Answer::Unsound, rec)
+    } else if !is_whole(memory) {
+        refuse(Answer::NotWhole, rec)
+    } else if is_bad(kind, byte) {
+        refuse(Answer::BadTransfer, rec)
+    } else {
+        decide_later(memory, kind, byte, rec, after_wait(wait, rec))
     }
-    if !is_whole(memory) {
-        return refuse(Answer::NotWhole, rec);
-    }
-    if is_bad(kind, byte) {
-        return refuse(Answer::BadTransfer, rec);
-    }
-    decide_later(memory, kind, byte, rec, after_wait(wait, rec))
 }
 
 // What reset comes to.
+#[tactic(auto, unfolding(crate::specs::Bus::reset_decided))]
 fn decide_reset(rec: Record, memory: &[u8]) -> Decision
     ensures { result ≡ reset_decided rec memory.now }
 {
-    let frequency = rec.frequency;
     if is_whole(memory) {
-        return Decision {
+        Decision {
             answer: Answer::Done,
             byte: 0,
-            rec: after_reset(frequency),
+            rec: after_reset(rec.frequency),
             effect: Effect::Blank,
-        };
+        }
+    } else {
+        refuse(Answer::NotWhole, rec)
     }
-    refuse(Answer::NotWhole, rec)
 }
 
 // One bus transfer: its kind (0 instruction write, 1 data write, 2 status read, 3 data read), its byte (00h for a
 // read), and the microseconds since the transfer before it.
+#[tactic(auto, using(crate::proofs::Laws::Kept::decided_fits))]
 pub fn transfer(rec: Record, memory: &mut [u8], kind: u8, byte: u8, wait: u32) -> Outcome
     ensures { TransferPromise rec memory.old kind byte wait result memory.new }
 {
     let decision = decide(rec, memory, kind, byte, wait);
-    let effect = decision.effect;
-    perform(effect, memory);
+    perform(decision.effect, memory);
     tell(decision)
 }
 
 // Power on. Any record will do, and an unsound one becomes sound; of what it holds only a frequency in range is kept.
+#[tactic(auto, using(crate::proofs::Laws::Kept::reset_fits))]
 pub fn reset(rec: Record, memory: &mut [u8]) -> Outcome
     ensures { ResetPromise rec memory.old result memory.new }
 {
     let decision = decide_reset(rec, memory);
-    let effect = decision.effect;
-    perform(effect, memory);
+    perform(decision.effect, memory);
     tell(decision)
 }

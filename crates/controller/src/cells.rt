@@ -6,15 +6,15 @@ ghost use Rattle.controller.specs.Cells.{place_of, stepped, wrapped};
 ghost use Rattle.controller.specs.Promises.{AddressSetPromise, CellOfPromise, LineLengthPromise};
 
 // A display address, as the bus carries it. It is never read as a pattern address.
-#[derive(Clone, Copy)]
+#[derive(Clone, Copy, PartialEq, Eq)]
 pub struct Add(pub u8);
 
 // A pattern address, as the bus carries it. It is never read as a display address.
-#[derive(Clone, Copy)]
+#[derive(Clone, Copy, PartialEq, Eq)]
 pub struct Acg(pub u8);
 
 // Where the next byte goes: a display cell 0 to 79 or a pattern cell 0 to 63.
-#[derive(Clone, Copy)]
+#[derive(Clone, Copy, PartialEq, Eq)]
 pub enum Counter {
     Display(u8),
     Pattern(u8),
@@ -31,13 +31,14 @@ pub fn cell_of(counter: Counter) -> u8
 }
 
 // What a display address names: a display cell, or nothing.
-#[derive(Clone, Copy)]
+#[derive(Clone, Copy, PartialEq, Eq)]
 pub enum Named {
     Cell(u8),
     Outside,
 }
 
 // Where the counter's cell stands among the 144.
+#[tactic(auto, unfolding(crate::specs::Cells::place_of))]
 pub fn place(counter: Counter) -> usize
     ensures { result ≡ place_of counter }
 {
@@ -48,14 +49,15 @@ pub fn place(counter: Counter) -> usize
 }
 
 // The byte in the counter's cell.
+#[tactic(auto, using(crate::proofs::Laws::Cells::place_below), unfolding(crate::specs::Cells::byte_under))]
 pub fn load(memory: &[u8], counter: Counter) -> u8
     requires { (length memory.now ≡ 144) × (on_cell counter ≡ true) }
     ensures { result ≡ byte_under memory.now counter }
 {
-    let at = place(counter);
-    memory[at]
+    memory[place(counter)]
 }
 
+#[tactic(auto, unfolding(crate::specs::Cells::on_cell))]
 pub fn on_cell(counter: Counter) -> bool
     ensures { result ≡ on_cell counter }
 {
@@ -66,17 +68,20 @@ pub fn on_cell(counter: Counter) -> bool
 }
 
 // One up or one down in a ring of `size` cells.
+#[tactic(auto, unfolding(crate::specs::Cells::wrapped))]
 pub fn wrap(size: u8, up: bool, cell: u8) -> u8
     requires { (size ≤ 80) × (cell < size) }
     ensures { result ≡ wrapped size up cell }
 {
     if up {
-        return (cell + 1) % size;
+        (cell + 1) % size
+    } else {
+        (cell + size - 1) % size
     }
-    (cell + size - 1) % size
 }
 
 // The counter one cell up or down, within its memory.
+#[tactic(auto, unfolding(crate::specs::Cells::stepped, crate::specs::Cells::on_cell))]
 pub fn step(up: bool, counter: Counter) -> Counter
     requires { on_cell counter ≡ true }
     ensures { result ≡ stepped up counter }
@@ -91,13 +96,11 @@ pub fn step(up: bool, counter: Counter) -> Counter
 pub fn line_length(n: bool) -> u8
     ensures { LineLengthPromise n result }
 {
-    if n {
-        return 40;
-    }
-    80
+    if n { 40 } else { 80 }
 }
 
 // The one place where a display address becomes a cell.
+#[tactic(auto, unfolding(crate::specs::Cells::cell_of_add))]
 pub fn cell_of_add(n: bool, add: Add) -> Named
     ensures { result ≡ cell_of_add n add }
 {
@@ -121,17 +124,16 @@ pub fn cell_of_add(n: bool, add: Add) -> Named
 }
 
 // The one place where a display cell becomes an address.
+#[tactic(auto, unfolding(crate::specs::Cells::add_of_cell))]
 pub fn add_of_cell(n: bool, cell: u8) -> Add
     requires { cell < 80 }
     ensures { result ≡ add_of_cell n cell }
 {
-    if n {
-        if cell < 40 {
-            return Add(cell);
-        }
-        return Add(cell + 24);
+    if n && 40 <= cell {
+        Add(cell + 24)
+    } else {
+        Add(cell)
     }
-    Add(cell)
 }
 
 // The one place where a pattern address becomes a cell.
@@ -149,6 +151,7 @@ pub fn acg_of_cell(cell: u8) -> Acg
 }
 
 // The instruction that sets the counter to this cell. A number past the last cell of its memory is counted on from the first.
+#[tactic(auto, using(crate::proofs::Laws::Cells::counted_below), unfolding(crate::specs::Cells::address_set))]
 pub fn address_set(n: bool, counter: Counter) -> u8
     ensures { AddressSetPromise n counter result }
 {
@@ -159,6 +162,7 @@ pub fn address_set(n: bool, counter: Counter) -> u8
 }
 
 // The counter's address, as a status read shows it.
+#[tactic(auto, unfolding(crate::specs::Cells::address_of, crate::specs::Cells::on_cell))]
 pub fn address(n: bool, counter: Counter) -> u8
     requires { on_cell counter ≡ true }
     ensures { result ≡ address_of n counter }

@@ -23,7 +23,7 @@ pub struct Decision {
 }
 
 // What the caller is told and given back.
-#[derive(Clone, Copy)]
+#[derive(Clone, Copy, PartialEq, Eq)]
 pub struct Outcome {
     pub answer: Answer,
     pub byte: u8,
@@ -45,12 +45,10 @@ pub fn refuse(answer: Answer, rec: Record) -> Decision
 pub fn finish(time: u32, effect: Effect, rec: Record) -> Decision
     ensures { result ≡ done time effect rec }
 {
-    let mut next = rec;
-    next.busy = time;
     Decision {
         answer: Answer::Done,
         byte: 0,
-        rec: next,
+        rec: Record { busy: time, ..rec },
         effect,
     }
 }
@@ -58,12 +56,10 @@ pub fn finish(time: u32, effect: Effect, rec: Record) -> Decision
 pub fn tell(decision: Decision) -> Outcome
     ensures { result ≡ outcome_of decision }
 {
-    let answer = decision.answer;
-    let rec = decision.rec;
     Outcome {
-        answer,
+        answer: decision.answer,
         byte: decision.byte,
-        rec,
+        rec: decision.rec,
     }
 }
 
@@ -72,13 +68,10 @@ fn blank(memory: &mut [u8])
     requires { 80 ≤ length memory.old }
     ensures { memory.new ≡ blanked memory.old }
 {
-    let mut cell = 0;
-    while cell < 80 {
-        memory[cell] = 0x20;
-        cell += 1;
-    }
+    memory[..80].fill(0x20);
 }
 
+#[tactic(auto, unfolding(crate::specs::Decision::performed))]
 pub fn perform(effect: Effect, memory: &mut [u8])
     requires { Fits effect memory.old }
     ensures { memory.new ≡ performed effect memory.old }

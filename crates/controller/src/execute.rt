@@ -25,12 +25,14 @@ pub enum Transfer {
 
 // Clear and Home take the long time, all else that takes time the short one: 1,640 and 40 microseconds at 250 kHz (document
 // 002), and at another frequency as much longer or shorter.
+#[tactic(auto, unfolding(crate::specs::Execute::short_time))]
 pub fn short_time(frequency: Frequency) -> u32
     ensures { ShortTimePromise frequency result }
 {
     time_at(40, frequency)
 }
 
+#[tactic(auto, unfolding(crate::specs::Execute::long_time))]
 pub fn long_time(frequency: Frequency) -> u32
     ensures { LongTimePromise frequency result }
 {
@@ -45,59 +47,61 @@ fn place_on(counter: Counter, rec: Record) -> Record
 }
 
 // The counter one cell on, as I/D says.
+#[tactic(auto, unfolding(crate::specs::Cells::stepped))]
 fn move_on(rec: Record) -> Record
     requires { on_cell rec.counter ≡ true }
     ensures { result ≡ moved_on rec }
 {
-    let counter = rec.counter;
-    let next = step(rec.entry.id, counter);
     Record {
-        counter: next,
+        counter: step(rec.entry.id, rec.counter),
         ..rec
     }
 }
 
 // The register loaded from the counter's cell, fresh.
+#[tactic(auto, unfolding(crate::specs::Cells::byte_under))]
 fn load_register(memory: &[u8], rec: Record) -> Record
     requires { (length memory.now ≡ 144) × (on_cell rec.counter ≡ true) }
     ensures { result ≡ loaded memory.now rec }
 {
-    let counter = rec.counter;
-    let mut next = rec;
-    next.reg = load(memory, counter);
-    next.fresh = true;
-    next
+    Record {
+        reg: load(memory, rec.counter),
+        fresh: true,
+        ..rec
+    }
 }
 
 // The register stale.
 fn unload_register(rec: Record) -> Record
     ensures { result ≡ unloaded rec }
 {
-    let mut next = rec;
-    next.fresh = false;
-    next
+    Record {
+        fresh: false,
+        ..rec
+    }
 }
 
 fn home(rec: Record) -> Record
     ensures { result ≡ homed rec }
 {
-    let mut next = rec;
-    next.shift = 0;
-    unload_register(place_on(Counter::Display(0), next))
+    unload_register(place_on(Counter::Display(0), Record { shift: 0, ..rec }))
 }
 
 // As Home, and the counter runs rightward again.
 fn clear(rec: Record) -> Record
     ensures { result ≡ cleared rec }
 {
-    let entry = Entry {
-        id: true,
-        s: rec.entry.s,
-    };
-    set_entry(entry, home(rec))
+    set_entry(
+        Entry {
+            id: true,
+            ..rec.entry
+        },
+        home(rec),
+    )
 }
 
 // In display memory a cursor move loads the register; in pattern memory it leaves it stale.
+#[tactic(auto, unfolding(crate::specs::Execute::cursor_at))]
 fn cursor_to(memory: &[u8], counter: Counter, rec: Record) -> Record
     requires { (length memory.now ≡ 144) × (on_cell counter ≡ true) }
     ensures { result ≡ cursor_at memory.now counter rec }
@@ -108,49 +112,49 @@ fn cursor_to(memory: &[u8], counter: Counter, rec: Record) -> Record
     }
 }
 
+#[tactic(auto, unfolding(crate::specs::Cells::wrapped))]
 fn shift(up: bool, rec: Record) -> Record
     requires { rec.shift < 80 }
     ensures { result ≡ shifted up rec }
 {
-    let mut next = rec;
-    next.shift = wrap(80, up, rec.shift);
-    next
+    Record {
+        shift: wrap(80, up, rec.shift),
+        ..rec
+    }
 }
 
 fn set_entry(entry: Entry, rec: Record) -> Record
     ensures { result ≡ with_entry entry rec }
 {
-    let mut next = rec;
-    next.entry = entry;
-    next
+    Record { entry, ..rec }
 }
 
 fn set_control(control: Control, rec: Record) -> Record
     ensures { result ≡ with_control control rec }
 {
-    let mut next = rec;
-    next.control = control;
-    next
+    Record { control, ..rec }
 }
 
 fn set_function(wide: bool, function: Function, rec: Record) -> Record
     ensures { result ≡ with_function wide function rec }
 {
-    let mut next = rec;
-    next.wide = wide;
-    next.function = function;
-    next
+    Record {
+        wide,
+        function,
+        ..rec
+    }
 }
 
 // Done in the short time.
+#[tactic(auto, unfolding(crate::specs::Execute::short_time))]
 fn change(rec: Record) -> Decision
     ensures { result ≡ changed rec }
 {
-    let frequency = rec.frequency;
-    finish(short_time(frequency), Effect::Keep, rec)
+    finish(short_time(rec.frequency), Effect::Keep, rec)
 }
 
 // A display address: its cell, or refusal 6.
+#[tactic(auto, using(crate::proofs::Laws::Cells::display_on), unfolding(crate::specs::Execute::addressed))]
 fn go_to(memory: &[u8], named: Named, rec: Record) -> Decision
     requires { (length memory.now ≡ 144) × Within named }
     ensures { result ≡ addressed memory.now named rec }
@@ -161,19 +165,18 @@ fn go_to(memory: &[u8], named: Named, rec: Record) -> Decision
     }
 }
 
+#[tactic(auto, using(crate::proofs::Laws::Cells::landings), unfolding(crate::specs::Execute::executed))]
 fn execute(memory: &[u8], instruction: Instruction, rec: Record) -> Decision
     requires { Ready rec memory.now }
     ensures { result ≡ executed memory.now instruction rec }
 {
-    let counter = rec.counter;
-    let frequency = rec.frequency;
     match instruction {
         Instruction::Nothing => change(rec),
-        Instruction::Clear => finish(long_time(frequency), Effect::Blank, clear(rec)),
-        Instruction::Home => finish(long_time(frequency), Effect::Keep, home(rec)),
+        Instruction::Clear => finish(long_time(rec.frequency), Effect::Blank, clear(rec)),
+        Instruction::Home => finish(long_time(rec.frequency), Effect::Keep, home(rec)),
         Instruction::SetEntry(entry) => change(set_entry(entry, rec)),
         Instruction::SetControl(control) => change(set_control(control, rec)),
-        Instruction::MoveCursor(right) => change(cursor_to(memory, step(right, counter), rec)),
+        Instruction::MoveCursor(right) => change(cursor_to(memory, step(right, rec.counter), rec)),
         Instruction::ShiftDisplay(right) => change(shift(!right, rec)),
         Instruction::SetFunction(wide, function) => change(set_function(wide, function, rec)),
         Instruction::PatternAddress(acg) => change(load_register(
@@ -185,35 +188,32 @@ fn execute(memory: &[u8], instruction: Instruction, rec: Record) -> Decision
 }
 
 // The display follows a data write: in display memory, with S=1.
+#[tactic(auto, unfolding(crate::specs::Execute::carried))]
 fn carry(counter: Counter, rec: Record) -> Record
     requires { rec.shift < 80 }
     ensures { result ≡ carried counter rec }
 {
     match counter {
-        Counter::Display(_) => {
-            if rec.entry.s {
-                return shift(rec.entry.id, rec);
-            }
-            rec
-        }
-        Counter::Pattern(_) => rec,
+        Counter::Display(_) if rec.entry.s => shift(rec.entry.id, rec),
+        _ => rec,
     }
 }
 
 // A data write: the byte into the counter's cell, and into the register, stale.
+#[tactic(auto, unfolding(crate::specs::Execute::written))]
 fn write(byte: u8, rec: Record) -> Decision
     requires { (on_cell rec.counter ≡ true) × (rec.shift < 80) }
     ensures { result ≡ written byte rec }
 {
-    let counter = rec.counter;
-    let frequency = rec.frequency;
-    let mut next = carry(counter, move_on(rec));
-    next.reg = byte;
-    next.fresh = false;
+    let moved = carry(rec.counter, move_on(rec));
     finish(
-        short_time(frequency),
-        Effect::Store(place(counter), byte),
-        next,
+        short_time(rec.frequency),
+        Effect::Store(place(rec.counter), byte),
+        Record {
+            reg: byte,
+            fresh: false,
+            ..moved
+        },
     )
 }
 
@@ -221,41 +221,41 @@ fn read_answer(fresh: bool) -> Answer
     ensures { result ≡ cond fresh Answer.Done Answer.StaleRead }
 {
     if fresh {
-        return Answer::Done;
+        Answer::Done
+    } else {
+        Answer::StaleRead
     }
-    Answer::StaleRead
 }
 
 // A data read of this byte: the counter moves on, and the register is loaded from its new cell. It never shifts.
+#[tactic(auto, using(crate::proofs::Laws::Cells::stepped_on), unfolding(crate::specs::Execute::read_out))]
 fn read(memory: &[u8], byte: u8, rec: Record) -> Decision
     requires { Ready rec memory.now }
     ensures { result ≡ read_out memory.now byte rec }
 {
-    let frequency = rec.frequency;
-    let mut next = load_register(memory, move_on(rec));
-    next.busy = short_time(frequency);
     Decision {
         answer: read_answer(rec.fresh),
         byte,
-        rec: next,
+        rec: Record {
+            busy: short_time(rec.frequency),
+            ..load_register(memory, move_on(rec))
+        },
         effect: Effect::Keep,
     }
 }
 
 // Bit 7 while busy, and the counter's address.
+#[tactic(auto, using(crate::proofs::Laws::Cells::address_below), unfolding(crate::specs::Execute::status_of))]
 pub fn status(rec: Record) -> u8
     requires { on_cell rec.counter ≡ true }
     ensures { result ≡ status_of rec }
 {
-    let counter = rec.counter;
-    let at = address(rec.function.n, counter);
-    if 0 < rec.busy {
-        return 0x80 + at;
-    }
-    at
+    let at = address(rec.function.n, rec.counter);
+    if 0 < rec.busy { 0x80 + at } else { at }
 }
 
 // What a complete transfer does. A status read takes no time and alters nothing.
+#[tactic(auto, unfolding(crate::specs::Execute::completed))]
 pub fn complete(memory: &[u8], transfer: Transfer, rec: Record) -> Decision
     requires { Ready rec memory.now }
     ensures { result ≡ completed memory.now transfer rec }

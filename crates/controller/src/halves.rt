@@ -4,12 +4,13 @@ ghost use Rattle.controller.specs.Cells.{on_cell};
 ghost use Rattle.controller.specs.Halves.{accepted, begun, crossed, ended, first_half, first_told, narrow, second_half};
 ghost use Rattle.controller.specs.Record.{FourBits, Ready};
 
-use crate::answers::{Answer, is_done};
+use crate::answers::Answer;
 use crate::decision::{Decision, Effect};
 use crate::execute::{Transfer, complete, status};
 use crate::record::{Half, Record, with_half};
 
 // The transfer that a kind and a byte begin. A read's byte is taken here.
+#[tactic(auto, unfolding(crate::specs::Halves::begun))]
 fn begin(kind: u8, byte: u8, rec: Record) -> Transfer
     requires { on_cell rec.counter ≡ true }
     ensures { result ≡ begun kind byte rec }
@@ -39,6 +40,7 @@ fn store_half(byte: u8, half: Half, rec: Record) -> Decision
 }
 
 // A write keeps its high four bits, a read its whole byte, and a read returns the high half.
+#[tactic(auto, unfolding(crate::specs::Halves::first_half))]
 fn first_half(transfer: Transfer, rec: Record) -> Decision
     ensures { result ≡ first_half transfer rec }
 {
@@ -51,34 +53,31 @@ fn first_half(transfer: Transfer, rec: Record) -> Decision
 }
 
 // A second half of another kind turns answer 0 into 8; 6 and 7 stay.
+#[tactic(auto, unfolding(crate::specs::Halves::crossed))]
 fn cross(other: bool, answer: Answer) -> Answer
     ensures { result ≡ crossed other answer }
 {
-    if !other {
-        return answer;
+    if other && answer == Answer::Done {
+        Answer::CrossedHalves
+    } else {
+        answer
     }
-    if is_done(answer) {
-        return Answer::CrossedHalves;
-    }
-    answer
 }
 
 // The second half returns the low half in bits 7 to 4.
+#[tactic(auto, unfolding(crate::specs::Halves::crossed))]
 fn end(other: bool, decision: Decision) -> Decision
     ensures { result ≡ ended other decision }
 {
-    let answer = decision.answer;
-    let rec = decision.rec;
-    let effect = decision.effect;
     Decision {
-        answer: cross(other, answer),
+        answer: cross(other, decision.answer),
         byte: decision.byte % 16 * 16,
-        rec,
-        effect,
+        ..decision
     }
 }
 
 // The second half completes what the first one began.
+#[tactic(auto, unfolding(crate::specs::Halves::second_half))]
 fn second_half(memory: &[u8], other: bool, transfer: Transfer, rec: Record) -> Decision
     requires { Ready rec memory.now }
     ensures { result ≡ second_half memory.now other transfer rec }
@@ -90,6 +89,7 @@ fn second_half(memory: &[u8], other: bool, transfer: Transfer, rec: Record) -> D
 }
 
 // Width 4: the half that waits says what this transfer is.
+#[tactic(auto, unfolding(crate::specs::Halves::narrow))]
 fn accept_narrow(memory: &[u8], kind: u8, byte: u8, half: Half, rec: Record) -> Decision
     requires { (Ready rec memory.now) × (FourBits half) }
     ensures { result ≡ narrow memory.now kind byte half rec }
@@ -115,13 +115,14 @@ fn accept_narrow(memory: &[u8], kind: u8, byte: u8, half: Half, rec: Record) -> 
 }
 
 // Width 8: the transfer is complete at once. Width 4: it is taken as a half.
+#[tactic(auto, unfolding(crate::specs::Halves::accepted))]
 pub fn accept(memory: &[u8], kind: u8, byte: u8, rec: Record) -> Decision
     requires { Ready rec memory.now }
     ensures { result ≡ accepted memory.now kind byte rec }
 {
     if rec.wide {
-        return complete(memory, begin(kind, byte, rec), rec);
+        complete(memory, begin(kind, byte, rec), rec)
+    } else {
+        accept_narrow(memory, kind, byte, rec.half, rec)
     }
-    let half = rec.half;
-    accept_narrow(memory, kind, byte, half, rec)
 }

@@ -21,6 +21,7 @@ pub enum Instruction {
 }
 
 // Whether the bit that is worth this much is set.
+#[tactic(auto, unfolding(crate::specs::Instruction::bit))]
 fn has(worth: u8, byte: u8) -> bool
     requires { 0 < worth }
     ensures { result ≡ bit worth byte }
@@ -29,6 +30,7 @@ fn has(worth: u8, byte: u8) -> bool
 }
 
 // The bits of Function Set below DL: N and F.
+#[tactic(auto, unfolding(crate::specs::Instruction::bit))]
 fn function_of(byte: u8) -> Function
     ensures { result ≡ record { n = bit 0x08 byte; f = bit 0x04 byte } }
 {
@@ -39,6 +41,7 @@ fn function_of(byte: u8) -> Function
 }
 
 // The bits of Display Control: D, C and B.
+#[tactic(auto, unfolding(crate::specs::Instruction::bit))]
 fn control_of(byte: u8) -> Control
     ensures { result ≡ record { d = bit 0x04 byte; c = bit 0x02 byte; b = bit 0x01 byte } }
 {
@@ -50,6 +53,7 @@ fn control_of(byte: u8) -> Control
 }
 
 // The bits of Entry Mode: I/D and S.
+#[tactic(auto, unfolding(crate::specs::Instruction::bit))]
 fn entry_of(byte: u8) -> Entry
     ensures { result ≡ record { id = bit 0x02 byte; s = bit 0x01 byte } }
 {
@@ -63,17 +67,19 @@ fn entry_of(byte: u8) -> Entry
 fn shift_of(byte: u8) -> Instruction
     ensures { result ≡ shift_of byte }
 {
+    let right = has(0x04, byte);
     if has(0x08, byte) {
-        return Instruction::ShiftDisplay(has(0x04, byte));
+        Instruction::ShiftDisplay(right)
+    } else {
+        Instruction::MoveCursor(right)
     }
-    Instruction::MoveCursor(has(0x04, byte))
 }
 
 // The instruction by its leading zero bits: a case a row, in the table's order, each under its bits as the table has them.
 pub fn decode(byte: u8) -> Instruction
     ensures { result ≡ decoded byte }
 {
-    match u8::leading_zeros(byte) {
+    match byte.leading_zeros() {
         // Clear:                    0 0 0 0 0 0 0 1
         7 => Instruction::Clear,
         // Home:                     0 0 0 0 0 0 1 *

@@ -6,7 +6,7 @@ use crate::bus::transfer;
 use crate::record::Record;
 
 // What the caller of the loan is told.
-#[derive(Clone, Copy)]
+#[derive(Clone, Copy, PartialEq, Eq)]
 pub struct Told {
     pub answer: Answer,
     pub byte: u8,

@@ -4,7 +4,7 @@ ghost use Rattle.controller.specs.Oscillator.{fitted, time_at};
 ghost use Rattle.controller.specs.Promises.{IsInRangePromise};
 
 // An oscillator's frequency.
-#[derive(Clone, Copy)]
+#[derive(Clone, Copy, PartialEq, Eq)]
 pub struct Frequency {
     pub khz: u16,
 }
@@ -21,6 +21,7 @@ impl Frequency {
 }
 
 // Whether a module may have this frequency.
+#[tactic(auto, unfolding(crate::specs::Oscillator::in_range))]
 pub fn is_in_range(frequency: Frequency) -> bool
     ensures { IsInRangePromise frequency result }
 {
@@ -28,16 +29,19 @@ pub fn is_in_range(frequency: Frequency) -> bool
 }
 
 // A frequency in range stays, and any other becomes 250.
+#[tactic(auto, unfolding(crate::specs::Oscillator::fitted))]
 pub fn fit(frequency: Frequency) -> Frequency
     ensures { result ≡ fitted frequency }
 {
     if is_in_range(frequency) {
-        return frequency;
+        frequency
+    } else {
+        Frequency::OLDER
     }
-    Frequency::OLDER
 }
 
 // The time of 250 kHz at this frequency, rounded up.
+#[tactic(auto, using(crate::proofs::Laws::Oscillator::fitted_within), unfolding(crate::specs::Oscillator::time_at))]
 pub fn time_at(time: u16, frequency: Frequency) -> u32
     ensures { result ≡ time_at time frequency }
 {

@@ -3,18 +3,18 @@ ghost use Rattle.std.specs.Prelude.{◌≡◌};
 ghost use Rattle.controller.specs.Promises.{AfterResetPromise, IsSoundPromise};
 ghost use Rattle.controller.specs.Record.{busy_over, half_sound, reset_time, waited, with_half};
 
-use crate::cells::Counter;
+use crate::cells::{Counter, on_cell};
 use crate::oscillator::{Frequency, fit, is_in_range};
 
 // What Function Set sets, beside the width: N, two lines, and F, tall letters.
-#[derive(Clone, Copy)]
+#[derive(Clone, Copy, PartialEq, Eq)]
 pub struct Function {
     pub n: bool,
     pub f: bool,
 }
 
 // What Display Control sets: D, the display is on, C, the cursor shows, and B, its cell blinks.
-#[derive(Clone, Copy)]
+#[derive(Clone, Copy, PartialEq, Eq)]
 pub struct Control {
     pub d: bool,
     pub c: bool,
@@ -22,14 +22,14 @@ pub struct Control {
 }
 
 // What Entry Mode sets: I/D, the counter goes up, and S, a data write shifts the display.
-#[derive(Clone, Copy)]
+#[derive(Clone, Copy, PartialEq, Eq)]
 pub struct Entry {
     pub id: bool,
     pub s: bool,
 }
 
 // The half transfer that waits at width 4: none, a write with its high four bits, or a read with its whole byte.
-#[derive(Clone, Copy)]
+#[derive(Clone, Copy, PartialEq, Eq)]
 pub enum Half {
     Empty,
     InstructionWrite(u8),
@@ -40,7 +40,7 @@ pub enum Half {
 
 // `wide`: width 8, and 4 where false. `reg`: the data register, which is `fresh` or stale. `busy`: microseconds left.
 // `frequency`: that of the oscillator which is fitted.
-#[derive(Clone, Copy)]
+#[derive(Clone, Copy, PartialEq, Eq)]
 pub struct Record {
     pub wide: bool,
     pub function: Function,
@@ -55,38 +55,39 @@ pub struct Record {
     pub half: Half,
 }
 
+#[tactic(auto, unfolding(crate::specs::Record::reset_time))]
 pub fn reset_time() -> u32
     ensures { result ≡ reset_time }
 {
     10_000
 }
 
+#[tactic(auto, unfolding(crate::specs::Record::half_sound))]
 fn half_is_sound(wide: bool, busy: u32, half: Half) -> bool
     ensures { result ≡ half_sound wide busy half }
 {
     match half {
         Half::Empty => true,
-        Half::InstructionWrite(high) => !wide && (high < 16 && busy == 0),
-        Half::DataWrite(high) => !wide && (high < 16 && busy == 0),
+        Half::InstructionWrite(high) | Half::DataWrite(high) => !wide && high < 16 && busy == 0,
         Half::StatusRead(_) => !wide,
         Half::DataRead(_) => !wide && busy == 0,
     }
 }
 
 // Whether a record is one that a controller can have.
+#[tactic(auto, unfolding(crate::specs::Record::sound))]
 pub fn is_sound(rec: Record) -> bool
     ensures { IsSoundPromise rec result }
 {
-    let counter = rec.counter;
-    let frequency = rec.frequency;
-    let half = rec.half;
     rec.shift < 80
-        && (crate::cells::on_cell(counter)
-            && (rec.busy <= reset_time()
-                && (is_in_range(frequency) && half_is_sound(rec.wide, rec.busy, half))))
+        && on_cell(rec.counter)
+        && rec.busy <= reset_time()
+        && is_in_range(rec.frequency)
+        && half_is_sound(rec.wide, rec.busy, rec.half)
 }
 
 // The record that reset leaves where this oscillator is fitted: a frequency in range is kept, and 250 put for any other.
+#[tactic(auto, unfolding(crate::specs::Record::reset_record))]
 pub fn after_reset(frequency: Frequency) -> Record
     ensures { AfterResetPromise frequency result }
 {
@@ -113,21 +114,22 @@ pub fn after_reset(frequency: Frequency) -> Record
 fn busy_over(rec: Record) -> Record
     ensures { result ≡ busy_over rec }
 {
-    let mut next = rec;
-    next.busy = 0;
-    next
+    Record { busy: 0, ..rec }
 }
 
 // The wait comes off busy, not below 0.
+#[tactic(auto, unfolding(crate::specs::Record::waited))]
 pub fn after_wait(wait: u32, rec: Record) -> Record
     ensures { result ≡ waited wait rec }
 {
     if rec.busy <= wait {
-        return busy_over(rec);
+        busy_over(rec)
+    } else {
+        Record {
+            busy: rec.busy - wait,
+            ..rec
+        }
     }
-    let mut next = rec;
-    next.busy = rec.busy - wait;
-    next
 }
 
 pub fn with_half(half: Half, rec: Record) -> Record

@@ -2,7 +2,7 @@
 ghost use Rattle.controller.specs.Promises.{LittleEndianPromise, NumberFromPromise, SixBytesPromise};
 
 // Kind (0 instruction write, 1 data write, 2 status read, 3 data read), byte, and the wait since the transfer before it.
-#[derive(Clone, Copy)]
+#[derive(Clone, Copy, PartialEq, Eq)]
 pub struct Sent {
     pub kind: u8,
     pub byte: u8,
@@ -13,25 +13,20 @@ pub struct Sent {
 pub fn little_endian(number: u32) -> [u8; 4]
     ensures { LittleEndianPromise number result }
 {
-    [
-        (number % 256) as u8,
-        (number / 256 % 256) as u8,
-        (number / 65536 % 256) as u8,
-        (number / 16777216 % 256) as u8,
-    ]
+    number.to_le_bytes()
 }
 
 // The number of four bytes, the lowest first.
 pub fn number_from(first: u8, second: u8, third: u8, fourth: u8) -> u32
     ensures { NumberFromPromise first second third fourth result }
 {
-    first as u32 + second as u32 * 256 + third as u32 * 65536 + fourth as u32 * 16777216
+    u32::from_le_bytes([first, second, third, fourth])
 }
 
 // The six bytes of a transfer.
 pub fn six_bytes(sent: Sent) -> [u8; 6]
     ensures { SixBytesPromise sent result }
 {
-    let wait = little_endian(sent.wait);
-    [sent.kind, sent.byte, wait[0], wait[1], wait[2], wait[3]]
+    let [first, second, third, fourth] = little_endian(sent.wait);
+    [sent.kind, sent.byte, first, second, third, fourth]
 }

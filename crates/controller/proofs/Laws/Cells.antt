@@ -75,3 +75,6 @@ named_within true add =
     (λ _. cond-elim Within (leb 0x40 add.0 && ltb add.0 0x68) (Cell (add.0 - 24)) Outside
     (λ between. omega (arith, ltb-true add.0 0x68 (and_right (leb 0x40 add.0) _ between)))
     (λ _. tt))
+
+-- where an instruction puts the counter there is a cell
+pub ruleset landings = (stepped_on, acg_on, named_within)
