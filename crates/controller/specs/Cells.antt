@@ -1,13 +1,11 @@
 -- The 144 cells of the lent memory, and the addresses by which the bus names them (document 01, "The controller's record
 -- and memory").
 -- Assumes nothing.
-use Rattle.std.specs.Prelude.{Bool, true, false, cond, ◌&&◌, List, ℕ, ◌+◌, ◌-◌, ◌%◌, ◌<◌, ltb, leb, get_or}
+use Rattle.std.specs.Prelude.{Bool, true, false, cond, ◌&&◌, List, ℕ, ◌+◌, ◌-◌, ◌%◌, ◌<◌, ltb, leb, get_or, Option, Some, None}
 use Rattle.controller.specs.declared.cells.Add.{Add}
 use Rattle.controller.specs.declared.cells.Acg.{Acg}
 use Rattle.controller.specs.declared.cells.Counter.{Counter}
 use Rattle.controller.specs.declared.cells.Counter.TheVariants.{Display, Pattern}
-use Rattle.controller.specs.declared.cells.Named.{Named}
-use Rattle.controller.specs.declared.cells.Named.TheVariants.{Cell, Outside}
 
 -- Display cells 0 to 79, then pattern cells 0 to 63: where a counter's cell stands among the 144.
 unfoldable pub place_of : Counter → ℕ
@@ -44,11 +42,11 @@ line_length false = 80
 line_length true = 40
 
 -- ADD to its cell. N=0: 00h to 4Fh are cells 0 to 79. N=1: 00h to 27h are cells 0 to 39, 40h to 67h are cells 40 to 79.
-unfoldable pub cell_of_add : Bool → Add → Named
-cell_of_add false add = cond (ltb add.0 0x50) (Cell add.0) Outside
+unfoldable pub cell_of_add : Bool → Add → Option ℕ
+cell_of_add false add = cond (ltb add.0 0x50) (Some add.0) None
 cell_of_add true add =
-    cond (ltb add.0 0x28) (Cell add.0)
-    (cond (leb 0x40 add.0 && ltb add.0 0x68) (Cell (add.0 - 24)) Outside)
+    cond (ltb add.0 0x28) (Some add.0)
+    (cond (leb 0x40 add.0 && ltb add.0 0x68) (Some (add.0 - 24)) None)
 
 -- A display cell to its ADD. N=0: the cell's own number. N=1: cells 40 to 79 are at cell + 24.
 unfoldable pub add_of_cell : Bool → ℕ → Add
@@ -56,9 +54,9 @@ add_of_cell false cell = record { 0 = cell }
 add_of_cell true cell = record { 0 = cond (ltb cell 40) cell (cell + 24) }
 
 -- What an address names is within display memory.
-abbrev pub Within : Named → Type 0
-Within (Cell cell) = cell < 80
-Within Outside = Unit {0}
+abbrev pub Within : Option ℕ → Type 0
+Within (Some cell) = cell < 80
+Within None = Unit {0}
 
 -- ACG to its pattern cell: an address of six bits.
 abbrev pub cell_of_acg : Acg → ℕ

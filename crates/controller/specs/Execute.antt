@@ -1,10 +1,8 @@
 -- What a complete transfer does (document 01, "One transfer", from the instructions to the status byte).
 -- Assumes nothing.
-use Rattle.std.specs.Prelude.{Bool, true, false, cond, not, List, ℕ, ◌+◌, ltb}
+use Rattle.std.specs.Prelude.{Bool, true, false, cond, not, List, ℕ, ◌+◌, ltb, Option, Some, None}
 use Rattle.controller.specs.declared.cells.Counter.{Counter}
 use Rattle.controller.specs.declared.cells.Counter.TheVariants.{Display, Pattern}
-use Rattle.controller.specs.declared.cells.Named.{Named}
-use Rattle.controller.specs.declared.cells.Named.TheVariants.{Cell, Outside}
 use Rattle.controller.specs.declared.answers.Answer.TheVariants.{Done, NoCell, StaleRead}
 use Rattle.controller.specs.declared.decision.Decision.{Decision}
 use Rattle.controller.specs.declared.decision.Effect.TheVariants.{Keep, Store, Blank}
@@ -68,9 +66,9 @@ abbrev pub shifted : Bool → Record → Record
 shifted up rec = with_shift (wrapped 80 up rec.shift) rec
 
 -- A display address with a cell loads the register, fresh; one without is refused.
-unfoldable pub addressed : List ℕ → Named → Record → Decision
-addressed mem (Cell cell) rec = changed (loaded mem (placed (Display cell) rec))
-addressed mem Outside rec = refused NoCell rec
+unfoldable pub addressed : List ℕ → Option ℕ → Record → Decision
+addressed mem (Some cell) rec = changed (loaded mem (placed (Display cell) rec))
+addressed mem None rec = refused NoCell rec
 
 -- What each instruction does.
 unfoldable pub executed : List ℕ → Instruction → Record → Decision

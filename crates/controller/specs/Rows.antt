@@ -1,11 +1,9 @@
 -- "Each is given exactly where its row applies, in order": the rows of transfer and reset, each with its condition in the table's
 -- own words (document 01, "What each number says").
 -- Assumes nothing.
-use Rattle.std.specs.Prelude.{Bool, true, false, cond, not, ◌&&◌, List, [], ◌∷◌, ◌⊎◌, ◌≡◌, ℕ, ◌-◌, ◌≤◌, ◌<◌, leb, eqb, length}
+use Rattle.std.specs.Prelude.{Bool, true, false, cond, not, ◌&&◌, List, [], ◌∷◌, ◌⊎◌, ◌≡◌, ℕ, ◌-◌, ◌≤◌, ◌<◌, leb, eqb, length, Option, Some, None}
 use Rattle.controller.specs.declared.cells.Counter.{Counter}
 use Rattle.controller.specs.declared.cells.Counter.TheVariants.{Display, Pattern}
-use Rattle.controller.specs.declared.cells.Named.{Named}
-use Rattle.controller.specs.declared.cells.Named.TheVariants.{Cell, Outside}
 use Rattle.controller.specs.declared.execute.Transfer.{Transfer}
 use Rattle.controller.specs.declared.execute.Transfer.TheVariants.{Instruct, Write, Status, Read}
 use Rattle.controller.specs.declared.oscillator.Frequency.{Frequency}
@@ -71,9 +69,9 @@ unfoldable pub complete_is : (Record → Transfer → Bool) → ℕ → ℕ → 
 complete_is test kind byte rec = cond rec.wide (test rec (begun kind byte rec)) (second_is (test rec) byte rec.half)
 
 -- The address names no cell.
-unfoldable pub is_outside : Named → Bool
-is_outside (Cell cell) = false
-is_outside Outside = true
+unfoldable pub is_outside : Option ℕ → Bool
+is_outside (Some cell) = false
+is_outside None = true
 
 -- Row 6: a display address without a cell.
 unfoldable pub lacks_cell : Record → Transfer → Bool

@@ -1,8 +1,7 @@
 -- What is proved of the definitions: each theorem is a type here, and its proof stands in proofs/Theorems.
 -- Assumes nothing.
-use Rattle.std.specs.Prelude.{Bool, true, false, cond, List, ◌≡◌, ℕ, ◌+◌, ◌-◌, ◌<◌, eqb}
+use Rattle.std.specs.Prelude.{Bool, true, false, cond, List, ◌≡◌, ℕ, ◌+◌, ◌-◌, ◌<◌, eqb, Some}
 use Rattle.controller.specs.declared.cells.Add.{Add}
-use Rattle.controller.specs.declared.cells.Named.TheVariants.{Cell}
 use Rattle.controller.specs.declared.answers.Answer.{Answer}
 use Rattle.controller.specs.declared.answers.Answer.TheVariants.{NotWhole}
 use Rattle.controller.specs.declared.decision.Decision.{Decision}
@@ -30,8 +29,8 @@ Wraps =
 abbrev pub AddressesMatch : Type 0
 AddressesMatch =
     (n : Bool)
-    → ((cell : ℕ) → cell < 80 → cell_of_add n (add_of_cell n cell) ≡ Cell cell)
-    × ((add : Add) (cell : ℕ) → cell_of_add n add ≡ Cell cell → add_of_cell n cell ≡ add)
+    → ((cell : ℕ) → cell < 80 → cell_of_add n (add_of_cell n cell) ≡ Some cell)
+    × ((add : Add) (cell : ℕ) → cell_of_add n add ≡ Some cell → add_of_cell n cell ≡ add)
 
 -- A transfer keeps a sound record sound.
 abbrev pub TransferKeepsSound : Type 0

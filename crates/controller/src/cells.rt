@@ -30,13 +30,6 @@ pub fn cell_of(counter: Counter) -> u8
     }
 }
 
-// What a display address names: a display cell, or nothing.
-#[derive(Clone, Copy, PartialEq, Eq)]
-pub enum Named {
-    Cell(u8),
-    Outside,
-}
-
 // Where the counter's cell stands among the 144.
 #[tactic(auto, unfolding(crate::specs::Cells::place_of))]
 pub fn place(counter: Counter) -> usize
@@ -99,28 +92,17 @@ pub fn line_length(n: bool) -> u8
     if n { 40 } else { 80 }
 }
 
-// The one place where a display address becomes a cell.
+// The one place where a display address becomes a cell, or nothing.
 #[tactic(auto, unfolding(crate::specs::Cells::cell_of_add))]
-pub fn cell_of_add(n: bool, add: Add) -> Named
+pub fn cell_of_add(n: bool, add: Add) -> Option<u8>
     ensures { result ≡ cell_of_add n add }
 {
-    let address = add.0;
-    if n {
-        if address < 0x28 {
-            return Named::Cell(address);
-        }
-        if address < 0x40 {
-            return Named::Outside;
-        }
-        if address < 0x68 {
-            return Named::Cell(address - 24);
-        }
-        return Named::Outside;
+    match (n, add.0) {
+        (false, address @ 0x00..=0x4F) => Some(address),
+        (true, address @ 0x00..=0x27) => Some(address),
+        (true, address @ 0x40..=0x67) => Some(address - 24),
+        _ => None,
     }
-    if address < 0x50 {
-        return Named::Cell(address);
-    }
-    Named::Outside
 }
 
 // The one place where a display cell becomes an address.

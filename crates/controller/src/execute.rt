@@ -2,17 +2,16 @@
 ghost use Rattle.std.specs.Prelude.{cond, true, ◌≡◌, ◌<◌, length};
 ghost use Rattle.controller.specs.Cells.{Within, on_cell};
 ghost use Rattle.controller.specs.Execute.{addressed, carried, changed, cleared, completed, cursor_at, executed};
-ghost use Rattle.controller.specs.Execute.{homed, loaded};
-ghost use Rattle.controller.specs.Execute.{moved_on, placed, read_out, shifted, status_of, unloaded, written};
+ghost use Rattle.controller.specs.Execute.{homed, loaded, moved_on, read_out, shifted, status_of, written};
 ghost use Rattle.controller.specs.Promises.{LongTimePromise, ShortTimePromise};
-ghost use Rattle.controller.specs.Record.{Ready, with_control, with_entry, with_function};
+ghost use Rattle.controller.specs.Record.{Ready};
 
 use crate::answers::Answer;
-use crate::cells::{Counter, Named, address, cell_of_acg, cell_of_add, load, place, step, wrap};
+use crate::cells::{Counter, address, cell_of_acg, cell_of_add, load, place, step, wrap};
 use crate::decision::{Decision, Effect, finish, refuse};
 use crate::instruction::{Instruction, decode};
 use crate::oscillator::{Frequency, time_at};
-use crate::record::{Control, Entry, Function, Record};
+use crate::record::{Entry, Record};
 
 // A complete transfer, with the byte that it writes or returns.
 #[derive(Clone, Copy)]
@@ -39,15 +38,7 @@ pub fn long_time(frequency: Frequency) -> u32
     time_at(1_640, frequency)
 }
 
-// The counter placed on this cell.
-fn place_on(counter: Counter, rec: Record) -> Record
-    ensures { result ≡ placed counter rec }
-{
-    Record { counter, ..rec }
-}
-
 // The counter one cell on, as I/D says.
-#[tactic(auto, unfolding(crate::specs::Cells::stepped))]
 fn move_on(rec: Record) -> Record
     requires { on_cell rec.counter ≡ true }
     ensures { result ≡ moved_on rec }
@@ -59,7 +50,6 @@ fn move_on(rec: Record) -> Record
 }
 
 // The register loaded from the counter's cell, fresh.
-#[tactic(auto, unfolding(crate::specs::Cells::byte_under))]
 fn load_register(memory: &[u8], rec: Record) -> Record
     requires { (length memory.now ≡ 144) × (on_cell rec.counter ≡ true) }
     ensures { result ≡ loaded memory.now rec }
@@ -71,33 +61,29 @@ fn load_register(memory: &[u8], rec: Record) -> Record
     }
 }
 
-// The register stale.
-fn unload_register(rec: Record) -> Record
-    ensures { result ≡ unloaded rec }
-{
-    Record {
-        fresh: false,
-        ..rec
-    }
-}
-
+// Counter cell 0, shift 0, and the register stale.
 fn home(rec: Record) -> Record
     ensures { result ≡ homed rec }
 {
-    unload_register(place_on(Counter::Display(0), Record { shift: 0, ..rec }))
+    Record {
+        counter: Counter::Display(0),
+        shift: 0,
+        fresh: false,
+        ..rec
+    }
 }
 
 // As Home, and the counter runs rightward again.
 fn clear(rec: Record) -> Record
     ensures { result ≡ cleared rec }
 {
-    set_entry(
-        Entry {
+    Record {
+        entry: Entry {
             id: true,
             ..rec.entry
         },
-        home(rec),
-    )
+        ..home(rec)
+    }
 }
 
 // In display memory a cursor move loads the register; in pattern memory it leaves it stale.
@@ -106,13 +92,16 @@ fn cursor_to(memory: &[u8], counter: Counter, rec: Record) -> Record
     requires { (length memory.now ≡ 144) × (on_cell counter ≡ true) }
     ensures { result ≡ cursor_at memory.now counter rec }
 {
+    let moved = Record { counter, ..rec };
     match counter {
-        Counter::Display(_) => load_register(memory, place_on(counter, rec)),
-        Counter::Pattern(_) => unload_register(place_on(counter, rec)),
+        Counter::Display(_) => load_register(memory, moved),
+        Counter::Pattern(_) => Record {
+            fresh: false,
+            ..moved
+        },
     }
 }
 
-#[tactic(auto, unfolding(crate::specs::Cells::wrapped))]
 fn shift(up: bool, rec: Record) -> Record
     requires { rec.shift < 80 }
     ensures { result ≡ shifted up rec }
@@ -123,45 +112,28 @@ fn shift(up: bool, rec: Record) -> Record
     }
 }
 
-fn set_entry(entry: Entry, rec: Record) -> Record
-    ensures { result ≡ with_entry entry rec }
-{
-    Record { entry, ..rec }
-}
-
-fn set_control(control: Control, rec: Record) -> Record
-    ensures { result ≡ with_control control rec }
-{
-    Record { control, ..rec }
-}
-
-fn set_function(wide: bool, function: Function, rec: Record) -> Record
-    ensures { result ≡ with_function wide function rec }
-{
-    Record {
-        wide,
-        function,
-        ..rec
-    }
-}
-
 // Done in the short time.
-#[tactic(auto, unfolding(crate::specs::Execute::short_time))]
 fn change(rec: Record) -> Decision
     ensures { result ≡ changed rec }
 {
     finish(short_time(rec.frequency), Effect::Keep, rec)
 }
 
-// A display address: its cell, or refusal 6.
+// A cell that an address names: the counter goes there, and the register is loaded. Refusal 6 where it names none.
 #[tactic(auto, using(crate::proofs::Laws::Cells::display_on), unfolding(crate::specs::Execute::addressed))]
-fn go_to(memory: &[u8], named: Named, rec: Record) -> Decision
+fn go_to(memory: &[u8], named: Option<u8>, rec: Record) -> Decision
     requires { (length memory.now ≡ 144) × Within named }
     ensures { result ≡ addressed memory.now named rec }
 {
     match named {
-        Named::Cell(cell) => change(load_register(memory, place_on(Counter::Display(cell), rec))),
-        Named::Outside => refuse(Answer::NoCell, rec),
+        Some(cell) => change(load_register(
+            memory,
+            Record {
+                counter: Counter::Display(cell),
+                ..rec
+            },
+        )),
+        None => refuse(Answer::NoCell, rec),
     }
 }
 
@@ -174,14 +146,21 @@ fn execute(memory: &[u8], instruction: Instruction, rec: Record) -> Decision
         Instruction::Nothing => change(rec),
         Instruction::Clear => finish(long_time(rec.frequency), Effect::Blank, clear(rec)),
         Instruction::Home => finish(long_time(rec.frequency), Effect::Keep, home(rec)),
-        Instruction::SetEntry(entry) => change(set_entry(entry, rec)),
-        Instruction::SetControl(control) => change(set_control(control, rec)),
+        Instruction::SetEntry(entry) => change(Record { entry, ..rec }),
+        Instruction::SetControl(control) => change(Record { control, ..rec }),
         Instruction::MoveCursor(right) => change(cursor_to(memory, step(right, rec.counter), rec)),
         Instruction::ShiftDisplay(right) => change(shift(!right, rec)),
-        Instruction::SetFunction(wide, function) => change(set_function(wide, function, rec)),
+        Instruction::SetFunction(wide, function) => change(Record {
+            wide,
+            function,
+            ..rec
+        }),
         Instruction::PatternAddress(acg) => change(load_register(
             memory,
-            place_on(Counter::Pattern(cell_of_acg(acg)), rec),
+            Record {
+                counter: Counter::Pattern(cell_of_acg(acg)),
+                ..rec
+            },
         )),
         Instruction::DisplayAddress(add) => go_to(memory, cell_of_add(rec.function.n, add), rec),
     }
@@ -205,14 +184,13 @@ fn write(byte: u8, rec: Record) -> Decision
     requires { (on_cell rec.counter ≡ true) × (rec.shift < 80) }
     ensures { result ≡ written byte rec }
 {
-    let moved = carry(rec.counter, move_on(rec));
     finish(
         short_time(rec.frequency),
         Effect::Store(place(rec.counter), byte),
         Record {
             reg: byte,
             fresh: false,
-            ..moved
+            ..carry(rec.counter, move_on(rec))
         },
     )
 }

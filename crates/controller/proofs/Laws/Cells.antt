@@ -1,5 +1,6 @@
 -- Laws of cells and addresses: what a counter on its cell tells, and that no step leaves its memory.
 -- Assumes nothing.
+use Rattle.std.specs.Prelude.{Some, None}
 use mathlib.Core.Bool.{Bool, true, false, ◌&&◌}
 use mathlib.Core.Path.{◌≡◌}
 use Prim.Native.Nat.{ℕ, ◌+◌, ◌-◌, ◌%◌, ◌<◌}
@@ -12,7 +13,6 @@ use Rattle.controller.specs.declared.cells.Add.{Add}
 use Rattle.controller.specs.declared.cells.Acg.{Acg}
 use Rattle.controller.specs.declared.cells.Counter.{Counter}
 use Rattle.controller.specs.declared.cells.Counter.TheVariants.{Display, Pattern}
-use Rattle.controller.specs.declared.cells.Named.TheVariants.{Cell, Outside}
 use Rattle.controller.specs.Cells.{place_of, on_cell, wrapped, stepped, cell_of_add, add_of_cell, cell_of_acg, address_of, Within}
 
 pub on_display : (cell : ℕ) → on_cell (Display cell) ≡ true → cell < 80
@@ -69,10 +69,10 @@ acg_on acg = pattern_on _ (omega arith)
 -- what an address names is a display cell or nothing
 pub named_within : (n : Bool) (add : Add) → Within (cell_of_add n add)
 unfolding cell_of_add
-named_within false add = cond-elim Within (ltb add.0 0x50) (Cell add.0) Outside (λ below. ltb-true _ _ below) (λ _. tt)
+named_within false add = cond-elim Within (ltb add.0 0x50) (Some add.0) None (λ below. ltb-true _ _ below) (λ _. tt)
 named_within true add =
-    cond-elim Within (ltb add.0 _) (Cell add.0) _ (λ below. lt_of_lt_of_le (ltb-true _ _ below) (lit≤ tt))
-    (λ _. cond-elim Within (leb 0x40 add.0 && ltb add.0 0x68) (Cell (add.0 - 24)) Outside
+    cond-elim Within (ltb add.0 _) (Some add.0) _ (λ below. lt_of_lt_of_le (ltb-true _ _ below) (lit≤ tt))
+    (λ _. cond-elim Within (leb 0x40 add.0 && ltb add.0 0x68) (Some (add.0 - 24)) None
     (λ between. omega (arith, ltb-true add.0 0x68 (and_right (leb 0x40 add.0) _ between)))
     (λ _. tt))
 

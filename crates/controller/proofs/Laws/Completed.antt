@@ -1,6 +1,7 @@
 -- One walk through what a complete transfer does: the half it leaves, the time it takes, the record it keeps sound, the memory it
 -- stays within, and the one refusal there is.
 -- Assumes nothing.
+use Rattle.std.specs.Prelude.{Option, Some, None}
 use mathlib.Core.Bool.{Bool, true, false, cond, not, false≢true}
 use mathlib.Core.List.{List}
 use mathlib.Core.Path.{◌≡◌, refl, sym, ap, ◌∙◌}
@@ -16,8 +17,6 @@ use Rattle.controller.proofs.Laws.Record.{sound_of}
 use Rattle.controller.specs.declared.answers.Answer.TheVariants.{Done, NoCell, StaleRead}
 use Rattle.controller.specs.declared.cells.Counter.{Counter}
 use Rattle.controller.specs.declared.cells.Counter.TheVariants.{Display, Pattern}
-use Rattle.controller.specs.declared.cells.Named.{Named}
-use Rattle.controller.specs.declared.cells.Named.TheVariants.{Cell, Outside}
 use Rattle.controller.specs.declared.decision.Decision.{Decision}
 use Rattle.controller.specs.declared.decision.Effect.{Effect}
 use Rattle.controller.specs.declared.decision.Effect.TheVariants.{Keep, Blank}
@@ -156,11 +155,11 @@ module _ (mem : List ℕ) (rec : Record) where
   cursor_carried (Display cell) on = changed_carried _ refl refl (λ idle. loaded_idle (placed_idle (Display cell) on idle))
   cursor_carried (Pattern cell) on = changed_carried _ refl refl (λ idle. loaded_idle (placed_idle (Pattern cell) on idle))
 
-  addressed_carried : (named : Named) → Within named → Carried mem rec (addressed mem named rec)
+  addressed_carried : (named : Option ℕ) → Within named → Carried mem rec (addressed mem named rec)
   unfolding addressed
-  addressed_carried (Cell cell) within =
+  addressed_carried (Some cell) within =
       changed_carried _ refl refl (λ idle. loaded_idle (placed_idle (Display cell) (display_on cell within) idle))
-  addressed_carried Outside within =
+  addressed_carried None within =
       record {
         half = refl;
         busy = λ still. still;
@@ -242,10 +241,10 @@ completed_carried mem (Status byte) rec =
     }
 completed_carried mem (Read byte) rec = read_carried mem byte rec
 
-addressed_keeps : (mem : List ℕ) (named : Named) (rec : Record) → (addressed mem named rec).effect ≡ Keep
+addressed_keeps : (mem : List ℕ) (named : Option ℕ) (rec : Record) → (addressed mem named rec).effect ≡ Keep
 unfolding addressed
-addressed_keeps mem (Cell cell) rec = refl
-addressed_keeps mem Outside rec = refl
+addressed_keeps mem (Some cell) rec = refl
+addressed_keeps mem None rec = refl
 
 -- every instruction byte but 01h keeps the memory
 pub instruct_keeps : (mem : List ℕ) (byte : ℕ) (rec : Record) → (byte ≡ 1 → ⊥) → (executed mem (decoded byte) rec).effect ≡ Keep

@@ -1,5 +1,6 @@
 -- Each number is given exactly where its row applies: the answer is the number of the first row that does.
 -- Assumes nothing.
+use Rattle.std.specs.Prelude.{Option, Some, None}
 use mathlib.Core.Bool.{Bool, true, false, cond, not, ◌&&◌, false≢true}
 use mathlib.Core.List.{List}
 use mathlib.Core.Path.{◌≡◌, refl, sym, ◌∙◌}
@@ -8,8 +9,6 @@ use native.Mathlib.Omega.{arith}
 use lib.Dec.{leb}
 use borrow.Author.Tests.{leb-true}
 use Rattle.controller.proofs.Laws.Choice.{cond-elim, cond_map}
-use Rattle.controller.specs.declared.cells.Named.{Named}
-use Rattle.controller.specs.declared.cells.Named.TheVariants.{Cell, Outside}
 use Rattle.controller.specs.declared.answers.Answer.{Answer}
 use Rattle.controller.specs.declared.decision.Decision.{Decision}
 use Rattle.controller.specs.declared.execute.Transfer.{Transfer}
@@ -38,10 +37,10 @@ use Rattle.controller.specs.Theorems.{TransferAnswers, LoanAnswers, ResetAnswers
 abbrev numbered : Decision → ℕ
 numbered d = number_of d.answer
 
-addressed_number : (mem : List ℕ) (named : Named) (rec : Record) → numbered (addressed mem named rec) ≡ cond (is_outside named) 6 0
+addressed_number : (mem : List ℕ) (named : Option ℕ) (rec : Record) → numbered (addressed mem named rec) ≡ cond (is_outside named) 6 0
 unfolding addressed is_outside
-addressed_number mem (Cell cell) rec = refl
-addressed_number mem Outside rec = refl
+addressed_number mem (Some cell) rec = refl
+addressed_number mem None rec = refl
 
 -- of all instructions only a display address can be answered 6
 instruct_number : (mem : List ℕ) (byte : ℕ) (rec : Record) → numbered (executed mem (decoded byte) rec) ≡ cond (lacks_cell rec (Instruct byte)) 6 0

@@ -1,6 +1,7 @@
 -- Two halves make a whole: what a complete transfer does takes no notice of the width, and at width 4 the second half completes the
 -- byte of both.
 -- Assumes nothing.
+use Rattle.std.specs.Prelude.{Option, Some, None}
 use mathlib.Core.Bool.{Bool, true, false, cond, ◌&&◌, ◌||◌, true≢false, false≢true}
 use mathlib.Core.List.{List}
 use mathlib.Core.Path.{◌≡◌, refl, sym, ap, subst, ◌∙◌}
@@ -17,8 +18,6 @@ use Rattle.controller.proofs.Laws.Tests.{tests_false}
 use Rattle.controller.proofs.Theorems.Sound.{transfer_keeps_sound}
 use Rattle.controller.specs.declared.cells.Counter.{Counter}
 use Rattle.controller.specs.declared.cells.Counter.TheVariants.{Display, Pattern}
-use Rattle.controller.specs.declared.cells.Named.{Named}
-use Rattle.controller.specs.declared.cells.Named.TheVariants.{Cell, Outside}
 use Rattle.controller.specs.declared.decision.Decision.{Decision}
 use Rattle.controller.specs.declared.execute.Transfer.{Transfer}
 use Rattle.controller.specs.declared.execute.Transfer.TheVariants.{Instruct, Write, Status, Read}
@@ -44,10 +43,10 @@ module _ (mem : List ℕ) (wide : Bool) (rec : Record) where
   cursor_alike (Display cell) = record { answer = refl; effect = refl; rec = refl }
   cursor_alike (Pattern cell) = record { answer = refl; effect = refl; rec = refl }
 
-  addressed_alike : (named : Named) → Alike (addressed mem named (at_width wide rec)) (addressed mem named rec)
+  addressed_alike : (named : Option ℕ) → Alike (addressed mem named (at_width wide rec)) (addressed mem named rec)
   unfolding addressed
-  addressed_alike (Cell cell) = record { answer = refl; effect = refl; rec = refl }
-  addressed_alike Outside = record { answer = refl; effect = refl; rec = refl }
+  addressed_alike (Some cell) = record { answer = refl; effect = refl; rec = refl }
+  addressed_alike None = record { answer = refl; effect = refl; rec = refl }
 
   executed_alike : (i : Instruction) → Alike (executed mem i (at_width wide rec)) (executed mem i rec)
   unfolding executed
@@ -131,10 +130,10 @@ module _ (rec : Record) (mem : List ℕ) (kind byte wait later : ℕ) (w : Waits
       })
 
 -- no write returns a byte
-addressed_byte : (mem : List ℕ) (named : Named) (rec : Record) → (addressed mem named rec).byte ≡ 0
+addressed_byte : (mem : List ℕ) (named : Option ℕ) (rec : Record) → (addressed mem named rec).byte ≡ 0
 unfolding addressed
-addressed_byte mem (Cell cell) rec = refl
-addressed_byte mem Outside rec = refl
+addressed_byte mem (Some cell) rec = refl
+addressed_byte mem None rec = refl
 
 pub executed_byte : (mem : List ℕ) (byte : ℕ) (rec : Record) → (executed mem (decoded byte) rec).byte ≡ 0
 unfolding executed

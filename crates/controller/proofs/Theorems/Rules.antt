@@ -1,5 +1,6 @@
 -- The instruction list, row by row: a byte's range says which row of the table it is, and the row's rule is read off field by field.
 -- Assumes nothing.
+use Rattle.std.specs.Prelude.{Option, Some, None}
 use mathlib.Core.Bool.{Bool, true, false, cond, ◌&&◌, and-false}
 use mathlib.Core.List.{List, ◌++◌}
 use mathlib.Core.Logic.{inl, inr}
@@ -22,8 +23,6 @@ use Rattle.controller.proofs.Theorems.Cells.{addresses_match, wraps}
 use Rattle.controller.specs.declared.answers.Answer.TheVariants.{Done, NoCell, StaleRead}
 use Rattle.controller.specs.declared.cells.Add.{Add}
 use Rattle.controller.specs.declared.cells.Counter.{Counter}
-use Rattle.controller.specs.declared.cells.Named.{Named}
-use Rattle.controller.specs.declared.cells.Named.TheVariants.{Cell, Outside}
 use Rattle.controller.specs.declared.cells.Counter.TheVariants.{Display, Pattern}
 use Rattle.controller.specs.Cells.{add_of_cell, address_of, address_set, byte_under, cell_of_add, on_cell, place_of, stepped, wrapped}
 use Rattle.controller.specs.declared.decision.Decision.{Decision}
@@ -310,16 +309,16 @@ sets_display rec mem byte wait w over under =
     named : (cell : ℕ) → Names n (byte - 0x80) cell → GoesTo (Display cell) cell rec mem (addressed mem (cell_of_add n add) (busy_over rec))
     named cell names =
         let is = names_add n (byte - 0x80) cell names in
-        let found : cell_of_add n add ≡ Cell cell = ap (λ (a : ℕ). cell_of_add n (record { 0 = a })) (sym is.1) ∙ (addresses_match n).0 cell is.0 in
-        subst (λ (x : Named). GoesTo (Display cell) cell rec mem (addressed mem x (busy_over rec))) (sym found) (there cell)
+        let found : cell_of_add n add ≡ Some cell = ap (λ (a : ℕ). cell_of_add n (record { 0 = a })) (sym is.1) ∙ (addresses_match n).0 cell is.0 in
+        subst (λ (x : Option ℕ). GoesTo (Display cell) cell rec mem (addressed mem x (busy_over rec))) (sym found) (there cell)
       where
-        there : (cell : ℕ) → GoesTo (Display cell) cell rec mem (addressed mem (Cell cell) (busy_over rec))
+        there : (cell : ℕ) → GoesTo (Display cell) cell rec mem (addressed mem (Some cell) (busy_over rec))
         there cell = goes (Display cell) cell rec mem w.holds refl
 
-    unnamed : (found : Named) → cell_of_add n add ≡ found → ((cell : ℕ) → Names n (byte - 0x80) cell → ⊥) → LacksCell rec mem (addressed mem found (busy_over rec))
-    unnamed (Cell cell) is none =
+    unnamed : (found : Option ℕ) → cell_of_add n add ≡ found → ((cell : ℕ) → Names n (byte - 0x80) cell → ⊥) → LacksCell rec mem (addressed mem found (busy_over rec))
+    unnamed (Some cell) is none =
         absurd (none cell (add_names n (byte - 0x80) cell (rw is at (named_within n add)) (ap (λ (x : Add). x.0) ((addresses_match n).1 add cell is))))
-    unnamed Outside is none = lacks rec mem w.holds
+    unnamed None is none = lacks rec mem w.holds
 
 pub instruction_rules : InstructionRules
 instruction_rules =
