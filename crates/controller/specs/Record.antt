@@ -1,6 +1,6 @@
 -- What the controller's record holds and when it is sound (document 01, "The controller's record and memory").
 -- Assumes nothing.
-use Rattle.std.specs.Prelude.{Bool, true, false, cond, not, ◌&&◌, List, ◌≡◌, ℕ, ◌-◌, ◌<◌, ltb, leb, eqb, length}
+use Rattle.std.specs.Prelude.{Bool, true, false, cond, not, ◌&&◌, ◌≡◌, ℕ, ◌-◌, ◌<◌, ltb, leb, eqb}
 use Rattle.controller.specs.declared.cells.Counter.{Counter}
 use Rattle.controller.specs.declared.cells.Counter.TheVariants.{Display}
 use Rattle.controller.specs.declared.«record».Control.{Control}
@@ -202,9 +202,8 @@ FourBits (DataWrite high) = high < 16
 FourBits (StatusRead byte) = Unit {0}
 FourBits (DataRead byte) = Unit {0}
 
--- What the rules of one transfer lean on: of a sound record the counter, the shift and the half, and the memory's length.
-pub record Ready (rec : Record) (mem : List ℕ) : Type 0 where
+-- What the rules of one transfer lean on: of a sound record the counter, the shift and the half.
+pub record Ready (rec : Record) : Type 0 where
   pub counter : on_cell rec.counter ≡ true
   pub shift : rec.shift < 80
   pub half : FourBits rec.half
-  pub whole : length mem ≡ 144

@@ -5,7 +5,7 @@ ghost use Rattle.controller.specs.Promises.{IsBadPromise, IsWholePromise, ResetP
 ghost use Rattle.controller.specs.Record.{Ready};
 
 use crate::answers::Answer;
-use crate::cells::on_cell;
+use crate::cells::{CELLS, Memory, on_cell};
 use crate::decision::{Decision, Effect, Outcome, perform, refuse, tell};
 use crate::halves::accept;
 use crate::record::{Half, Record, after_reset, after_wait, is_sound};
@@ -15,7 +15,7 @@ use crate::record::{Half, Record, after_reset, after_wait, is_sound};
 pub fn is_whole(memory: &[u8]) -> bool
     ensures { IsWholePromise memory.now result }
 {
-    memory.len() == 144
+    memory.len() == CELLS
 }
 
 // A kind above 3, or a read with a byte.
@@ -36,8 +36,8 @@ fn must_wait(kind: u8, rec: Record) -> bool
 
 // The refusals that come after the wait, 4 and 9. `rec` is the record as found, `later` the same after the wait.
 #[tactic(auto, unfolding(crate::specs::Bus::ordered))]
-fn decide_later(memory: &[u8], kind: u8, byte: u8, rec: Record, later: Record) -> Decision
-    requires { Ready later memory.now }
+fn decide_later(memory: &Memory, kind: u8, byte: u8, rec: Record, later: Record) -> Decision
+    requires { Ready later }
     ensures { result ≡ ordered memory.now kind byte rec later }
 {
     if must_wait(kind, later) {
@@ -50,19 +50,20 @@ fn decide_later(memory: &[u8], kind: u8, byte: u8, rec: Record, later: Record) -
 }
 
 // What a transfer comes to. Refusals 1, 2 and 3 come before the wait and leave the record as found.
-#[tactic(auto, unfolding(crate::specs::Bus::decided))]
+#[tactic(auto, unfolding(crate::specs::Bus::decided, crate::specs::Bus::whole))]
 fn decide(rec: Record, memory: &[u8], kind: u8, byte: u8, wait: u32) -> Decision
     ensures { result ≡ decided rec memory.now kind byte wait }
 {
     if !is_sound(rec) {
-        refuse(Answer::Unsound, rec)
-    } else if !is_whole(memory) {
-        refuse(Answer::NotWhole, rec)
-    } else if is_bad(kind, byte) {
-        refuse(Answer::BadTransfer, rec)
-    } else {
-        decide_later(memory, kind, byte, rec, after_wait(wait, rec))
+        return refuse(Answer::Unsound, rec);
     }
+    let Ok(memory) = <&Memory>::try_from(memory) else {
+        return refuse(Answer::NotWhole, rec);
+    };
+    if is_bad(kind, byte) {
+        return refuse(Answer::BadTransfer, rec);
+    }
+    decide_later(memory, kind, byte, rec, after_wait(wait, rec))
 }
 
 // What reset comes to.

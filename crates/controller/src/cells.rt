@@ -1,9 +1,15 @@
 // The 144 cells of the lent memory, display cells 0 to 79 and then pattern cells 0 to 63, and the addresses by which
 // the bus names them.
-ghost use Rattle.std.specs.Prelude.{true, ◌≡◌, ◌<◌, ◌≤◌, length};
+ghost use Rattle.std.specs.Prelude.{true, ◌≡◌, ◌<◌, ◌≤◌};
 ghost use Rattle.controller.specs.Cells.{acg_of_cell, add_of_cell, address_of, byte_under, cell_of_acg, cell_of_add, on_cell};
 ghost use Rattle.controller.specs.Cells.{place_of, stepped, wrapped};
 ghost use Rattle.controller.specs.Promises.{AddressSetPromise, CellOfPromise, LineLengthPromise};
+
+// How many cells the lent memory has: 80 display cells and 64 pattern cells.
+pub const CELLS: usize = 144;
+
+// A lent memory whose length is checked.
+pub type Memory = [u8; CELLS];
 
 // A display address, as the bus carries it. It is never read as a pattern address.
 #[derive(Clone, Copy, PartialEq, Eq)]
@@ -43,8 +49,8 @@ pub fn place(counter: Counter) -> usize
 
 // The byte in the counter's cell.
 #[tactic(auto, using(crate::proofs::Laws::Cells::place_below), unfolding(crate::specs::Cells::byte_under))]
-pub fn load(memory: &[u8], counter: Counter) -> u8
-    requires { (length memory.now ≡ 144) × (on_cell counter ≡ true) }
+pub fn load(memory: &Memory, counter: Counter) -> u8
+    requires { on_cell counter ≡ true }
     ensures { result ≡ byte_under memory.now counter }
 {
     memory[place(counter)]

@@ -1,5 +1,5 @@
 // What a complete transfer does.
-ghost use Rattle.std.specs.Prelude.{cond, true, ◌≡◌, ◌<◌, length};
+ghost use Rattle.std.specs.Prelude.{cond, true, ◌≡◌, ◌<◌};
 ghost use Rattle.controller.specs.Cells.{Within, on_cell};
 ghost use Rattle.controller.specs.Execute.{addressed, carried, changed, cleared, completed, cursor_at, executed};
 ghost use Rattle.controller.specs.Execute.{homed, loaded, moved_on, read_out, shifted, status_of, written};
@@ -7,7 +7,7 @@ ghost use Rattle.controller.specs.Promises.{LongTimePromise, ShortTimePromise};
 ghost use Rattle.controller.specs.Record.{Ready};
 
 use crate::answers::Answer;
-use crate::cells::{Counter, address, cell_of_acg, cell_of_add, load, place, step, wrap};
+use crate::cells::{Counter, Memory, address, cell_of_acg, cell_of_add, load, place, step, wrap};
 use crate::decision::{Decision, Effect, finish, refuse};
 use crate::instruction::{Instruction, decode};
 use crate::oscillator::{Frequency, time_at};
@@ -50,8 +50,8 @@ fn move_on(rec: Record) -> Record
 }
 
 // The register loaded from the counter's cell, fresh.
-fn load_register(memory: &[u8], rec: Record) -> Record
-    requires { (length memory.now ≡ 144) × (on_cell rec.counter ≡ true) }
+fn load_register(memory: &Memory, rec: Record) -> Record
+    requires { on_cell rec.counter ≡ true }
     ensures { result ≡ loaded memory.now rec }
 {
     Record {
@@ -88,8 +88,8 @@ fn clear(rec: Record) -> Record
 
 // In display memory a cursor move loads the register; in pattern memory it leaves it stale.
 #[tactic(auto, unfolding(crate::specs::Execute::cursor_at))]
-fn cursor_to(memory: &[u8], counter: Counter, rec: Record) -> Record
-    requires { (length memory.now ≡ 144) × (on_cell counter ≡ true) }
+fn cursor_to(memory: &Memory, counter: Counter, rec: Record) -> Record
+    requires { on_cell counter ≡ true }
     ensures { result ≡ cursor_at memory.now counter rec }
 {
     let moved = Record { counter, ..rec };
@@ -121,8 +121,8 @@ fn change(rec: Record) -> Decision
 
 // A cell that an address names: the counter goes there, and the register is loaded. Refusal 6 where it names none.
 #[tactic(auto, using(crate::proofs::Laws::Cells::display_on), unfolding(crate::specs::Execute::addressed))]
-fn go_to(memory: &[u8], named: Option<u8>, rec: Record) -> Decision
-    requires { (length memory.now ≡ 144) × Within named }
+fn go_to(memory: &Memory, named: Option<u8>, rec: Record) -> Decision
+    requires { Within named }
     ensures { result ≡ addressed memory.now named rec }
 {
     match named {
@@ -138,8 +138,8 @@ fn go_to(memory: &[u8], named: Option<u8>, rec: Record) -> Decision
 }
 
 #[tactic(auto, using(crate::proofs::Laws::Cells::landings), unfolding(crate::specs::Execute::executed))]
-fn execute(memory: &[u8], instruction: Instruction, rec: Record) -> Decision
-    requires { Ready rec memory.now }
+fn execute(memory: &Memory, instruction: Instruction, rec: Record) -> Decision
+    requires { Ready rec }
     ensures { result ≡ executed memory.now instruction rec }
 {
     match instruction {
@@ -207,8 +207,8 @@ fn read_answer(fresh: bool) -> Answer
 
 // A data read of this byte: the counter moves on, and the register is loaded from its new cell. It never shifts.
 #[tactic(auto, using(crate::proofs::Laws::Cells::stepped_on), unfolding(crate::specs::Execute::read_out))]
-fn read(memory: &[u8], byte: u8, rec: Record) -> Decision
-    requires { Ready rec memory.now }
+fn read(memory: &Memory, byte: u8, rec: Record) -> Decision
+    requires { Ready rec }
     ensures { result ≡ read_out memory.now byte rec }
 {
     Decision {
@@ -234,8 +234,8 @@ pub fn status(rec: Record) -> u8
 
 // What a complete transfer does. A status read takes no time and alters nothing.
 #[tactic(auto, unfolding(crate::specs::Execute::completed))]
-pub fn complete(memory: &[u8], transfer: Transfer, rec: Record) -> Decision
-    requires { Ready rec memory.now }
+pub fn complete(memory: &Memory, transfer: Transfer, rec: Record) -> Decision
+    requires { Ready rec }
     ensures { result ≡ completed memory.now transfer rec }
 {
     match transfer {

@@ -5,6 +5,7 @@ ghost use Rattle.controller.specs.Halves.{accepted, begun, crossed, ended, first
 ghost use Rattle.controller.specs.Record.{FourBits, Ready};
 
 use crate::answers::Answer;
+use crate::cells::Memory;
 use crate::decision::{Decision, Effect};
 use crate::execute::{Transfer, complete, status};
 use crate::record::{Half, Record, with_half};
@@ -78,8 +79,8 @@ fn end(other: bool, decision: Decision) -> Decision
 
 // The second half completes what the first one began.
 #[tactic(auto, unfolding(crate::specs::Halves::second_half))]
-fn second_half(memory: &[u8], other: bool, transfer: Transfer, rec: Record) -> Decision
-    requires { Ready rec memory.now }
+fn second_half(memory: &Memory, other: bool, transfer: Transfer, rec: Record) -> Decision
+    requires { Ready rec }
     ensures { result ≡ second_half memory.now other transfer rec }
 {
     end(
@@ -90,8 +91,8 @@ fn second_half(memory: &[u8], other: bool, transfer: Transfer, rec: Record) -> D
 
 // Width 4: the half that waits says what this transfer is.
 #[tactic(auto, unfolding(crate::specs::Halves::narrow))]
-fn accept_narrow(memory: &[u8], kind: u8, byte: u8, half: Half, rec: Record) -> Decision
-    requires { (Ready rec memory.now) × (FourBits half) }
+fn accept_narrow(memory: &Memory, kind: u8, byte: u8, half: Half, rec: Record) -> Decision
+    requires { Ready rec × FourBits half }
     ensures { result ≡ narrow memory.now kind byte half rec }
 {
     let low = byte / 16;
@@ -116,8 +117,8 @@ fn accept_narrow(memory: &[u8], kind: u8, byte: u8, half: Half, rec: Record) -> 
 
 // Width 8: the transfer is complete at once. Width 4: it is taken as a half.
 #[tactic(auto, unfolding(crate::specs::Halves::accepted))]
-pub fn accept(memory: &[u8], kind: u8, byte: u8, rec: Record) -> Decision
-    requires { Ready rec memory.now }
+pub fn accept(memory: &Memory, kind: u8, byte: u8, rec: Record) -> Decision
+    requires { Ready rec }
     ensures { result ≡ accepted memory.now kind byte rec }
 {
     if rec.wide {

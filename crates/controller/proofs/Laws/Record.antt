@@ -101,12 +101,11 @@ pub whole_length : (mem : List ℕ) → whole mem ≡ true → length mem ≡ 14
 unfolding whole
 whole_length mem w = omega (arith, eqb-true (length mem) _ w)
 
--- a sound record and a whole memory are all that the rules lean on
-pub ready : (rec : Record) (mem : List ℕ) → sound rec ≡ true → whole mem ≡ true → Ready rec mem
-ready rec mem s w =
+-- a sound record is all that the rules lean on
+pub ready : (rec : Record) → sound rec ≡ true → Ready rec
+ready rec s =
     record {
       counter = sound_counter rec s;
       shift = sound_shift rec s;
       half = half_four_bits rec.wide rec.busy rec.half (sound_half rec s);
-      whole = whole_length mem w;
     }

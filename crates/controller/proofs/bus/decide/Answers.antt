@@ -6,6 +6,4 @@ use Rattle.controller.proofs.bus.decide.Goals as goal
 
 pub decide_later-requires : goal.decide_later-requires
 decide_later-requires c =
-    let s = sym c.is_sound.ensures ∙ c.if-not-is_sound.false in
-    let w = sym c.is_whole.ensures ∙ c.if-not-is_whole.false in
-    rw c.after_wait.ensures (ready _ _ (waited_sound _ _ s) w)
+    rw c.after_wait.ensures (ready _ (waited_sound _ _ (sym c.is_sound.ensures ∙ c.if-not-is_sound.false)))
