@@ -4,6 +4,7 @@ pub mod Oscillator
 pub mod Record
 pub mod Decision
 pub mod Instruction
+pub mod Kind
 pub mod HighestBit
 pub mod Execute
 pub mod Halves

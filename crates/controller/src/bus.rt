@@ -1,6 +1,7 @@
 // The public calls. Each answers every input: the refusals in their order, then what the rules say.
 ghost use Rattle.std.specs.Prelude.{true, ◌≡◌};
 ghost use Rattle.controller.specs.Bus.{decided, must_wait, no_half, ordered, reset_decided};
+ghost use Rattle.controller.specs.Kind.{kind_number};
 ghost use Rattle.controller.specs.Promises.{IsBadPromise, IsWholePromise, ResetPromise, TransferPromise};
 ghost use Rattle.controller.specs.Record.{Ready};
 
@@ -8,6 +9,7 @@ use crate::answers::Answer;
 use crate::cells::{CELLS, Memory, on_cell};
 use crate::decision::{Decision, Effect, Outcome, perform, refuse, tell};
 use crate::halves::accept;
+use crate::kind::{Kind, kind_of};
 use crate::record::{Half, Record, after_reset, after_wait, is_sound};
 
 // Whether a lent memory, or the marks or values of a wish, are 144 bytes.
@@ -23,22 +25,22 @@ pub fn is_whole(memory: &[u8]) -> bool
 pub fn is_bad(kind: u8, byte: u8) -> bool
     ensures { IsBadPromise kind byte result }
 {
-    3 < kind || (2 <= kind && 0 < byte)
+    kind_of(kind, byte).is_none()
 }
 
 // With no half waiting and busy above 0, anything but a status read must wait.
 #[tactic(auto, unfolding(crate::specs::Bus::must_wait))]
-fn must_wait(kind: u8, rec: Record) -> bool
-    ensures { result ≡ must_wait kind rec }
+fn must_wait(kind: Kind, rec: Record) -> bool
+    ensures { result ≡ must_wait (kind_number kind) rec }
 {
-    rec.half == Half::Empty && 0 < rec.busy && kind != 2
+    rec.half == Half::Empty && 0 < rec.busy && kind != Kind::StatusRead
 }
 
 // The refusals that come after the wait, 4 and 9. `rec` is the record as found, `later` the same after the wait.
 #[tactic(auto, unfolding(crate::specs::Bus::ordered))]
-fn decide_later(memory: &Memory, kind: u8, byte: u8, rec: Record, later: Record) -> Decision
+fn decide_later(memory: &Memory, kind: Kind, byte: u8, rec: Record, later: Record) -> Decision
     requires { Ready later }
-    ensures { result ≡ ordered memory.now kind byte rec later }
+    ensures { result ≡ ordered memory.now (kind_number kind) byte rec later }
 {
     if must_wait(kind, later) {
         refuse(Answer::Busy, later)
@@ -60,9 +62,9 @@ fn decide(rec: Record, memory: &[u8], kind: u8, byte: u8, wait: u32) -> Decision
     let Ok(memory) = <&Memory>::try_from(memory) else {
         return refuse(Answer::NotWhole, rec);
     };
-    if is_bad(kind, byte) {
+    let Some(kind) = kind_of(kind, byte) else {
         return refuse(Answer::BadTransfer, rec);
-    }
+    };
     decide_later(memory, kind, byte, rec, after_wait(wait, rec))
 }
 

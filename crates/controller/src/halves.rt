@@ -2,30 +2,28 @@
 ghost use Rattle.std.specs.Prelude.{true, ◌≡◌};
 ghost use Rattle.controller.specs.Cells.{on_cell};
 ghost use Rattle.controller.specs.Halves.{accepted, begun, crossed, ended, first_half, first_told, narrow, second_half};
+ghost use Rattle.controller.specs.Kind.{kind_number};
 ghost use Rattle.controller.specs.Record.{FourBits, Ready};
 
 use crate::answers::Answer;
 use crate::cells::Memory;
 use crate::decision::{Decision, Effect};
 use crate::execute::{Transfer, complete, status};
+use crate::kind::Kind;
 use crate::record::{Half, Record, with_half};
 
 // The transfer that a kind and a byte begin. A read's byte is taken here.
 #[tactic(auto, unfolding(crate::specs::Halves::begun))]
-fn begin(kind: u8, byte: u8, rec: Record) -> Transfer
+fn begin(kind: Kind, byte: u8, rec: Record) -> Transfer
     requires { on_cell rec.counter ≡ true }
-    ensures { result ≡ begun kind byte rec }
+    ensures { result ≡ begun (kind_number kind) byte rec }
 {
-    if kind == 0 {
-        return Transfer::Instruct(byte);
+    match kind {
+        Kind::InstructionWrite => Transfer::Instruct(byte),
+        Kind::DataWrite => Transfer::Write(byte),
+        Kind::StatusRead => Transfer::Status(status(rec)),
+        Kind::DataRead => Transfer::Read(rec.reg),
     }
-    if kind == 1 {
-        return Transfer::Write(byte);
-    }
-    if kind == 2 {
-        return Transfer::Status(status(rec));
-    }
-    Transfer::Read(rec.reg)
 }
 
 // Answer 5, this byte told, this half stored.
@@ -91,35 +89,45 @@ fn second_half(memory: &Memory, other: bool, transfer: Transfer, rec: Record) ->
 
 // Width 4: the half that waits says what this transfer is.
 #[tactic(auto, unfolding(crate::specs::Halves::narrow))]
-fn accept_narrow(memory: &Memory, kind: u8, byte: u8, half: Half, rec: Record) -> Decision
+fn accept_narrow(memory: &Memory, kind: Kind, byte: u8, half: Half, rec: Record) -> Decision
     requires { Ready rec × FourBits half }
-    ensures { result ≡ narrow memory.now kind byte half rec }
+    ensures { result ≡ narrow memory.now (kind_number kind) byte half rec }
 {
     let low = byte / 16;
     match half {
         Half::Empty => first_half(begin(kind, byte, rec), rec),
         Half::InstructionWrite(high) => second_half(
             memory,
-            kind != 0,
+            kind != Kind::InstructionWrite,
             Transfer::Instruct(high * 16 + low),
             rec,
         ),
         Half::DataWrite(high) => second_half(
             memory,
-            kind != 1,
+            kind != Kind::DataWrite,
             Transfer::Write(high * 16 + low),
             rec,
         ),
-        Half::StatusRead(taken) => second_half(memory, kind != 2, Transfer::Status(taken), rec),
-        Half::DataRead(taken) => second_half(memory, kind != 3, Transfer::Read(taken), rec),
+        Half::StatusRead(taken) => second_half(
+            memory,
+            kind != Kind::StatusRead,
+            Transfer::Status(taken),
+            rec,
+        ),
+        Half::DataRead(taken) => second_half(
+            memory,
+            kind != Kind::DataRead,
+            Transfer::Read(taken),
+            rec,
+        ),
     }
 }
 
 // Width 8: the transfer is complete at once. Width 4: it is taken as a half.
 #[tactic(auto, unfolding(crate::specs::Halves::accepted))]
-pub fn accept(memory: &Memory, kind: u8, byte: u8, rec: Record) -> Decision
+pub fn accept(memory: &Memory, kind: Kind, byte: u8, rec: Record) -> Decision
     requires { Ready rec }
-    ensures { result ≡ accepted memory.now kind byte rec }
+    ensures { result ≡ accepted memory.now (kind_number kind) byte rec }
 {
     if rec.wide {
         complete(memory, begin(kind, byte, rec), rec)

@@ -11,6 +11,7 @@ mod decision;
 mod execute;
 mod halves;
 mod instruction;
+mod kind;
 mod loan;
 mod oscillator;
 mod record;
