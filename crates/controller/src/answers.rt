@@ -1,57 +1,36 @@
 // The answers of all calls, and their numbers in the table "What each number says".
 ghost use Rattle.controller.specs.Promises.{IsDonePromise, IsRefusalPromise, NumberPromise};
 
-// A name for each row of the table "What each number says".
+// A name for each row of the table "What each number says", and its number there.
 #[derive(Clone, Copy, PartialEq, Eq)]
 pub enum Answer {
-    Done,
-    Unsound,
-    NotWhole,
-    BadTransfer,
-    Busy,
-    FirstHalf,
-    NoCell,
-    StaleRead,
-    CrossedHalves,
-    CounterOff,
-    BadSize,
-    OutputShort,
-    NotWish,
-    OutsideSubset,
-    SignalMissing,
-    BadKind,
-    BadByte,
-    BadWait,
-    NoNewline,
-    LevelUnknown,
+    Done = 0,
+    Unsound = 1,
+    NotWhole = 2,
+    BadTransfer = 3,
+    Busy = 4,
+    FirstHalf = 5,
+    NoCell = 6,
+    StaleRead = 7,
+    CrossedHalves = 8,
+    CounterOff = 9,
+    BadSize = 10,
+    OutputShort = 11,
+    NotWish = 13,
+    OutsideSubset = 14,
+    SignalMissing = 15,
+    BadKind = 16,
+    BadByte = 17,
+    BadWait = 18,
+    NoNewline = 19,
+    LevelUnknown = 28,
 }
 
 // The number of an answer in the table.
 pub fn number(answer: Answer) -> u8
     ensures { NumberPromise answer result }
 {
-    match answer {
-        Answer::Done => 0,
-        Answer::Unsound => 1,
-        Answer::NotWhole => 2,
-        Answer::BadTransfer => 3,
-        Answer::Busy => 4,
-        Answer::FirstHalf => 5,
-        Answer::NoCell => 6,
-        Answer::StaleRead => 7,
-        Answer::CrossedHalves => 8,
-        Answer::CounterOff => 9,
-        Answer::BadSize => 10,
-        Answer::OutputShort => 11,
-        Answer::NotWish => 13,
-        Answer::OutsideSubset => 14,
-        Answer::SignalMissing => 15,
-        Answer::BadKind => 16,
-        Answer::BadByte => 17,
-        Answer::BadWait => 18,
-        Answer::NoNewline => 19,
-        Answer::LevelUnknown => 28,
-    }
+    answer as u8
 }
 
 // Whether the answer is 0.
