@@ -31,8 +31,7 @@ pub fn cell_of(counter: Counter) -> u8
     ensures { CellOfPromise counter result }
 {
     match counter {
-        Counter::Display(cell) => cell,
-        Counter::Pattern(cell) => cell,
+        Counter::Display(cell) | Counter::Pattern(cell) => cell,
     }
 }
 

@@ -1,5 +1,5 @@
 // What a complete transfer does.
-ghost use Rattle.std.specs.Prelude.{cond, true, ◌≡◌, ◌<◌};
+ghost use Rattle.std.specs.Prelude.{true, ◌≡◌, ◌<◌};
 ghost use Rattle.controller.specs.Cells.{Within, on_cell};
 ghost use Rattle.controller.specs.Execute.{addressed, carried, changed, cleared, completed, cursor_at, executed};
 ghost use Rattle.controller.specs.Execute.{homed, loaded, moved_on, read_out, shifted, status_of, written};
@@ -195,16 +195,6 @@ fn write(byte: u8, rec: Record) -> Decision
     )
 }
 
-fn read_answer(fresh: bool) -> Answer
-    ensures { result ≡ cond fresh Answer.Done Answer.StaleRead }
-{
-    if fresh {
-        Answer::Done
-    } else {
-        Answer::StaleRead
-    }
-}
-
 // A data read of this byte: the counter moves on, and the register is loaded from its new cell. It never shifts.
 #[tactic(auto, using(crate::proofs::Laws::Cells::stepped_on), unfolding(crate::specs::Execute::read_out))]
 fn read(memory: &Memory, byte: u8, rec: Record) -> Decision
@@ -212,7 +202,11 @@ fn read(memory: &Memory, byte: u8, rec: Record) -> Decision
     ensures { result ≡ read_out memory.now byte rec }
 {
     Decision {
-        answer: read_answer(rec.fresh),
+        answer: if rec.fresh {
+            Answer::Done
+        } else {
+            Answer::StaleRead
+        },
         byte,
         rec: Record {
             busy: short_time(rec.frequency),

@@ -3,14 +3,14 @@ ghost use Rattle.std.specs.Prelude.{true, ◌≡◌};
 ghost use Rattle.controller.specs.Cells.{on_cell};
 ghost use Rattle.controller.specs.Halves.{accepted, begun, crossed, ended, first_half, first_told, narrow, second_half};
 ghost use Rattle.controller.specs.Kind.{kind_number};
-ghost use Rattle.controller.specs.Record.{FourBits, Ready};
+ghost use Rattle.controller.specs.Record.{Ready};
 
 use crate::answers::Answer;
 use crate::cells::Memory;
 use crate::decision::{Decision, Effect};
 use crate::execute::{Transfer, complete, status};
 use crate::kind::Kind;
-use crate::record::{Half, Record, with_half};
+use crate::record::{Half, Record};
 
 // The transfer that a kind and a byte begin. A read's byte is taken here.
 #[tactic(auto, unfolding(crate::specs::Halves::begun))]
@@ -33,7 +33,7 @@ fn store_half(byte: u8, half: Half, rec: Record) -> Decision
     Decision {
         answer: Answer::FirstHalf,
         byte,
-        rec: with_half(half, rec),
+        rec: Record { half, ..rec },
         effect: Effect::Keep,
     }
 }
@@ -83,44 +83,35 @@ fn second_half(memory: &Memory, other: bool, transfer: Transfer, rec: Record) ->
 {
     end(
         other,
-        complete(memory, transfer, with_half(Half::Empty, rec)),
+        complete(
+            memory,
+            transfer,
+            Record {
+                half: Half::Empty,
+                ..rec
+            },
+        ),
     )
 }
 
 // Width 4: the half that waits says what this transfer is.
 #[tactic(auto, unfolding(crate::specs::Halves::narrow))]
-fn accept_narrow(memory: &Memory, kind: Kind, byte: u8, half: Half, rec: Record) -> Decision
-    requires { Ready rec × FourBits half }
-    ensures { result ≡ narrow memory.now (kind_number kind) byte half rec }
+fn accept_narrow(memory: &Memory, kind: Kind, byte: u8, rec: Record) -> Decision
+    requires { Ready rec }
+    ensures { result ≡ narrow memory.now (kind_number kind) byte rec.half rec }
 {
     let low = byte / 16;
-    match half {
-        Half::Empty => first_half(begin(kind, byte, rec), rec),
-        Half::InstructionWrite(high) => second_half(
-            memory,
-            kind != Kind::InstructionWrite,
+    let (first, transfer) = match rec.half {
+        Half::Empty => return first_half(begin(kind, byte, rec), rec),
+        Half::InstructionWrite(high) => (
+            Kind::InstructionWrite,
             Transfer::Instruct(high * 16 + low),
-            rec,
         ),
-        Half::DataWrite(high) => second_half(
-            memory,
-            kind != Kind::DataWrite,
-            Transfer::Write(high * 16 + low),
-            rec,
-        ),
-        Half::StatusRead(taken) => second_half(
-            memory,
-            kind != Kind::StatusRead,
-            Transfer::Status(taken),
-            rec,
-        ),
-        Half::DataRead(taken) => second_half(
-            memory,
-            kind != Kind::DataRead,
-            Transfer::Read(taken),
-            rec,
-        ),
-    }
+        Half::DataWrite(high) => (Kind::DataWrite, Transfer::Write(high * 16 + low)),
+        Half::StatusRead(taken) => (Kind::StatusRead, Transfer::Status(taken)),
+        Half::DataRead(taken) => (Kind::DataRead, Transfer::Read(taken)),
+    };
+    second_half(memory, kind != first, transfer, rec)
 }
 
 // Width 8: the transfer is complete at once. Width 4: it is taken as a half.
@@ -132,6 +123,6 @@ pub fn accept(memory: &Memory, kind: Kind, byte: u8, rec: Record) -> Decision
     if rec.wide {
         complete(memory, begin(kind, byte, rec), rec)
     } else {
-        accept_narrow(memory, kind, byte, rec.half, rec)
+        accept_narrow(memory, kind, byte, rec)
     }
 }

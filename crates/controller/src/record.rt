@@ -1,7 +1,7 @@
 // The controller's record: all that it keeps beside the memory.
 ghost use Rattle.std.specs.Prelude.{◌≡◌};
 ghost use Rattle.controller.specs.Promises.{AfterResetPromise, IsSoundPromise};
-ghost use Rattle.controller.specs.Record.{busy_over, half_sound, reset_time, waited, with_half};
+ghost use Rattle.controller.specs.Record.{half_sound, waited};
 
 use crate::cells::{Counter, on_cell};
 use crate::oscillator::{Frequency, fit, is_in_range};
@@ -55,12 +55,8 @@ pub struct Record {
     pub half: Half,
 }
 
-#[tactic(auto, unfolding(crate::specs::Record::reset_time))]
-pub fn reset_time() -> u32
-    ensures { result ≡ reset_time }
-{
-    10_000
-}
+// The microseconds that reset takes, and the most that busy can be.
+const RESET_TIME: u32 = 10_000;
 
 #[tactic(auto, unfolding(crate::specs::Record::half_sound))]
 fn half_is_sound(wide: bool, busy: u32, half: Half) -> bool
@@ -75,19 +71,19 @@ fn half_is_sound(wide: bool, busy: u32, half: Half) -> bool
 }
 
 // Whether a record is one that a controller can have.
-#[tactic(auto, unfolding(crate::specs::Record::sound))]
+#[tactic(auto, unfolding(crate::specs::Record::sound, crate::specs::Record::reset_time))]
 pub fn is_sound(rec: Record) -> bool
     ensures { IsSoundPromise rec result }
 {
     rec.shift < 80
         && on_cell(rec.counter)
-        && rec.busy <= reset_time()
+        && rec.busy <= RESET_TIME
         && is_in_range(rec.frequency)
         && half_is_sound(rec.wide, rec.busy, rec.half)
 }
 
 // The record that reset leaves where this oscillator is fitted: a frequency in range is kept, and 250 put for any other.
-#[tactic(auto, unfolding(crate::specs::Record::reset_record))]
+#[tactic(auto, unfolding(crate::specs::Record::reset_record, crate::specs::Record::reset_time))]
 pub fn after_reset(frequency: Frequency) -> Record
     ensures { AfterResetPromise frequency result }
 {
@@ -104,36 +100,19 @@ pub fn after_reset(frequency: Frequency) -> Record
         counter: Counter::Display(0),
         reg: 0,
         fresh: false,
-        busy: reset_time(),
+        busy: RESET_TIME,
         frequency: fit(frequency),
         half: Half::Empty,
     }
 }
 
-// The record with busy over.
-fn busy_over(rec: Record) -> Record
-    ensures { result ≡ busy_over rec }
-{
-    Record { busy: 0, ..rec }
-}
-
 // The wait comes off busy, not below 0.
-#[tactic(auto, unfolding(crate::specs::Record::waited))]
+#[tactic(auto, using(crate::proofs::Laws::Record::less_waited))]
 pub fn after_wait(wait: u32, rec: Record) -> Record
     ensures { result ≡ waited wait rec }
 {
-    if rec.busy <= wait {
-        busy_over(rec)
-    } else {
-        Record {
-            busy: rec.busy - wait,
-            ..rec
-        }
+    Record {
+        busy: rec.busy.saturating_sub(wait),
+        ..rec
     }
-}
-
-pub fn with_half(half: Half, rec: Record) -> Record
-    ensures { result ≡ with_half half rec }
-{
-    Record { half, ..rec }
 }

@@ -2,7 +2,7 @@
 -- Assumes nothing.
 use mathlib.Core.Bool.{Bool, true, false, not, ◌&&◌}
 use mathlib.Core.List.{List}
-use mathlib.Core.Path.{◌≡◌, refl}
+use mathlib.Core.Path.{◌≡◌, refl, ap}
 use Prim.Native.Nat.{ℕ, ◌-◌, ◌<◌, ◌≤◌, zero-le}
 use native.Mathlib.Omega.{arith}
 use lib.Dec.{ltb, leb, eqb}
@@ -84,6 +84,13 @@ pub waited_sound : (wait : ℕ) (rec : Record) → sound rec ≡ true → sound 
 unfolding waited
 waited_sound wait rec s =
     cond-elim (λ (r : Record). sound r ≡ true) (leb rec.busy wait) _ _ (λ _. less_sound 0 rec zero-le s) (λ _. less_sound _ rec (omega arith) s)
+
+-- what is left of busy, not below 0, is less than it was or nothing
+pub less_waited : (wait : ℕ) (rec : Record) → with_busy (rec.busy - wait) rec ≡ waited wait rec
+unfolding waited
+less_waited wait rec =
+    cond-elim (λ (r : Record). with_busy (rec.busy - wait) rec ≡ r) (leb rec.busy wait) _ _
+    (λ over. ap (λ (left : ℕ). with_busy left rec) (omega (arith, leb-true rec.busy wait over))) (λ _. refl)
 
 -- a wait as long as the busy time, or longer, ends it
 pub waited_over : (wait : ℕ) (rec : Record) → rec.busy ≤ wait → waited wait rec ≡ busy_over rec
