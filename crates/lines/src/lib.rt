@@ -4,12 +4,14 @@
 
 mod digits;
 mod fields;
+mod page;
 mod reader;
 mod text;
 mod words;
 mod writer;
 
 pub use digits::{hex_digit, three_digits, worth_of};
+pub use page::Page;
 pub use reader::{BadLine, Line, read_line};
 pub use text::{first, put_byte, put_hex, put_number, put_text};
 pub use words::{put_answer, words_of};
