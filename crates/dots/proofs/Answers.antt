@@ -2,11 +2,12 @@
 -- Assumes nothing.
 use mathlib.Core.Bool.{Bool, true, false, cond, not, true≢false}
 use mathlib.Core.List.{List}
-use mathlib.Core.Path.{◌≡◌, refl, sym, ap, ◌∙◌}
-use Prim.Native.Nat.{ℕ, ◌≤◌}
+use mathlib.Core.Path.{◌≡◌, refl, sym, ◌∙◌}
+use Prim.Native.Nat.{ℕ, ◌≤◌, ◌<◌}
 use borrow.Author.Tests.{eqb-true, le-ltb, ltb-false, ltb-true}
 use lib.Dec.{ltb}
 use lib.ListN.{length}
+use Rattle.std.specs.Prelude.{Ok, Err}
 use Rattle.controller.specs.declared.answers.Answer.{Answer}
 use Rattle.controller.specs.declared.answers.Answer.TheVariants.{Done, Unsound, NotWhole, BadSize, OutputShort}
 use Rattle.controller.specs.declared.«record».Record.{Record}
@@ -18,13 +19,16 @@ use Rattle.dots.specs.declared.panel.Profile.{Profile}
 use Rattle.dots.specs.Font.{font}
 use Rattle.dots.specs.Geometry.{picture_length}
 use Rattle.dots.specs.Panel.{fits_glass}
-use Rattle.dots.specs.Picture.{Drawable, Pictured, answer_for, answered, picture_byte, output, painted}
-use Rattle.dots.proofs.Table.{font_length}
+use Rattle.dots.specs.Picture.{PictureReturns, answer_for, answer_of, answered, picture_byte, output, painted, result_of}
 
--- A sound record and a whole memory can be drawn.
-pub drawable : (shapes : List ℕ) (rec : Record) (mem : List ℕ) → shapes ≡ font → sound rec ≡ true → whole mem ≡ true → Drawable shapes rec mem
-unfolding sound whole
-drawable shapes rec mem t s w = record { table = ap length t ∙ font_length; shift = ltb-true rec.shift 80 (and_left _ _ s); whole = eqb-true (length mem) 144 w }
+-- What a scene asks for, of a sound record and of a whole memory.
+pub sound_shift : (rec : Record) → sound rec ≡ true → rec.shift < 80
+unfolding sound
+sound_shift rec s = ltb-true rec.shift 80 (and_left _ _ s)
+
+pub whole_length : (mem : List ℕ) → whole mem ≡ true → length mem ≡ 144
+unfolding whole
+whole_length mem w = eqb-true (length mem) 144 w
 
 -- What the answer is where the tests before it were passed.
 module _ (rec : Record) (mem : List ℕ) (profile : Profile) (bytes room : ℕ) where
@@ -81,13 +85,27 @@ module _ (rec : Record) (mem : List ℕ) (profile : Profile) (bytes room : ℕ) 
       go true false _ _ none e = (refl, λ other space. refl)
       go false _ _ _ none e = (refl, λ other space. refl)
 
--- What the picture leaves, by its answer.
-module _ (rec : Record) (mem : List ℕ) (profile : Profile) (lit : Bool) (out : List ℕ) where
-  pub refused : (answer : Answer) → answered rec mem profile (length out) ≡ answer → is_refusal answer ≡ true → Pictured rec mem profile lit out answer out
-  unfolding output
-  refused answer is r = record { told = sym is; number = simp is; out = simp (is, r) }
+-- A result and the answer that it tells say the same, and no refusal is told by 0.
+pub told_back : (answer : Answer) → answer_of (result_of answer) ≡ answer
+told_back Done = refl
+told_back refusal = refl
 
-  pub drawn : (shapes after : List ℕ) → answered rec mem profile (length out) ≡ Done → shapes ≡ font
-      → after ≡ painted (picture_byte shapes rec mem lit profile) 0 (picture_length rec.function profile) out → Pictured rec mem profile lit out Done after
+pub not_done : (answer refusal : Answer) → Err refusal ≡ result_of answer → is_done refusal ≡ false
+not_done Done refusal told = cc
+not_done answer refusal told =
+    let same : refusal ≡ answer = cc in
+    rw same refl
+
+-- What the picture returns and leaves, by its answer.
+module _ (rec : Record) (mem : List ℕ) (profile : Profile) (lit : Bool) (out : List ℕ) where
+  pub refused : (answer : Answer) → answered rec mem profile (length out) ≡ answer → is_refusal answer ≡ true → result_of answer ≡ Err answer
+      → PictureReturns rec mem profile lit out (Err answer) out
+  unfolding output
+  refused answer is r told =
+      record { told = sym (simp is told); pictured = record { told = sym is; number = simp is; out = simp (is, r) } }
+
+  pub drawn : (after : List ℕ) → answered rec mem profile (length out) ≡ Done
+      → after ≡ painted (picture_byte font rec mem lit profile) 0 (picture_length rec.function profile) out → PictureReturns rec mem profile lit out (Ok tt) after
   unfolding output is_refusal
-  drawn shapes after is t painting = record { told = sym is; number = simp is; out = painting ∙ simp (t, is) }
+  drawn after is painting =
+      record { told = sym (simp is); pictured = record { told = sym is; number = simp is; out = painting ∙ simp is } }

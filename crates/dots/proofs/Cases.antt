@@ -9,6 +9,7 @@ use borrow.Author.Tests.{eqb-true, eqb-false, ltb-true, ltb-false}
 use lib.Dec.{ltb, eqb}
 use lib.ListN.{length, get_or, set, length-set}
 use lib.Seq.{get_or-set_same, get_or-set_other, set_out}
+use Rattle.std.specs.Prelude.{Option, Some, None}
 use Rattle.controller.specs.declared.«record».Record.{Record}
 use Rattle.controller.proofs.Laws.Taken.{taken_wide}
 use Rattle.controller.proofs.Laws.Rows.{bad_tests}
@@ -23,8 +24,6 @@ use Rattle.controller.specs.Record.{busy_over}
 use Rattle.controller.specs.declared.decision.Decision.{Decision}
 use Rattle.controller.specs.declared.«record».Half.TheVariants.{Empty}
 use Rattle.controller.specs.Cells.{add_of_cell, wrapped}
-use Rattle.dots.specs.declared.geometry.Shown.{Shown}
-use Rattle.dots.specs.declared.geometry.Shown.TheVariants.{Cell, Undriven}
 use Rattle.dots.specs.declared.panel.Profile.{Profile}
 use Rattle.dots.specs.Cases.{LinesStart, P5, P7}
 use Rattle.dots.specs.Font.{font}
@@ -76,10 +75,10 @@ module _ (mem : List ℕ) (cell : ℕ) (display : cell < 80) (within : cell < le
       go true e = rw (eqb-true at cell e, get_or-set_same mem cell 0x08 0 within, holds) (sym (rows_08 shapes mem row))
       go false e = rw (get_or-set_other mem cell at 0x08 0 (eqb-false at cell e)) refl
 
-  shown_08 : (shapes : List ℕ) (rec : Record) (lit : Bool) (row : ℕ) (shown : Shown) → shown_row shapes rec (set mem cell 0x08) lit row shown ≡ shown_row shapes rec mem lit row shown
+  shown_08 : (shapes : List ℕ) (rec : Record) (lit : Bool) (row : ℕ) (shown : Option ℕ) → shown_row shapes rec (set mem cell 0x08) lit row shown ≡ shown_row shapes rec mem lit row shown
   unfolding shown_row cell_row
-  shown_08 shapes rec lit row (Cell at) = ap (λ (k : ℕ). cond (covered rec lit row at) 0b11111 k) (cell_08 shapes at row)
-  shown_08 shapes rec lit row Undriven = refl
+  shown_08 shapes rec lit row (Some at) = ap (λ (k : ℕ). cond (covered rec lit row at) 0b11111 k) (cell_08 shapes at row)
+  shown_08 shapes rec lit row None = refl
 
   byte_08 : (rec : Record) (lit : Bool) (profile : Profile) (at : ℕ) → picture_byte font rec (set mem cell 0x08) lit profile at ≡ picture_byte font rec mem lit profile at
   unfolding picture_byte dots_at

@@ -8,9 +8,9 @@ use native.Mathlib.Nat.{add-zero, div-eq_of_lt, mod-eq_of_lt, mod-lt, mul-add-di
 use native.Mathlib.Omega.{arith}
 use borrow.Author.Tests.{ltb-true}
 use lib.Dec.{ltb}
+use Rattle.std.specs.Prelude.{Some, None}
 use Rattle.controller.specs.declared.«record».Function.{Function}
 use Rattle.controller.specs.declared.«record».Record.{Record}
-use Rattle.dots.specs.declared.geometry.Shown.TheVariants.{Cell, Undriven}
 use Rattle.dots.specs.declared.panel.Profile.{Profile}
 use Rattle.dots.specs.Geometry.{ShownWithin, cell_in, height, tallest}
 use Rattle.dots.specs.Panel.{size_of}
@@ -42,7 +42,7 @@ pub in_within : (driven length shift line position : ℕ) → 0 < length → dri
 unfolding cell_in
 in_within driven length shift line position some few = go (ltb line driven) refl
   where
-    go : (b : Bool) → ltb line driven ≡ b → ShownWithin (cond b (Cell (line * length + (position + shift) % length)) Undriven)
+    go : (b : Bool) → ltb line driven ≡ b → ShownWithin (cond b (Some (line * length + (position + shift) % length)) None)
     go true e = omega (arith, row_ends length line driven (ltb-true line driven e), mod-lt (position + shift) some)
     go false e = tt
 

@@ -7,9 +7,9 @@ use native.Mathlib.Nat.{add-mul, add-mul-mod_self_right, div-add-mod', mod-add-m
 use native.Mathlib.Omega.{arith}
 use borrow.Author.Tests.{le-ltb, lt-ltb}
 use lib.Dec.{ltb}
+use Rattle.std.specs.Prelude.{Some}
 use Rattle.controller.specs.Cells.{add_of_cell, line_length}
 use Rattle.controller.proofs.Laws.Choice.{and_left, and_right}
-use Rattle.dots.specs.declared.geometry.Shown.TheVariants.{Cell}
 use Rattle.dots.specs.declared.panel.Profile.{Profile}
 use Rattle.dots.specs.declared.panel.Profile.TheVariants.{Plain, FourRows, Divided, Unknown}
 use Rattle.dots.specs.Geometry.{cell_at, cell_in, driven_lines, is_shown_in, shown_at}
@@ -42,12 +42,12 @@ rows_start =
 
 -- One position on in a line, where that is known by equations.
 step_on : (n : Bool) (shift line position line' position' cell : ℕ) → line ≡ line' → position + 1 ≡ position'
-    → cell_at n shift line position ≡ Cell cell → cell_at n shift line' position' ≡ Cell (next_cell n cell)
+    → cell_at n shift line position ≡ Some cell → cell_at n shift line' position' ≡ Some (next_cell n cell)
 step_on n shift line position line' position' cell same on is = rw (sym same, sym on) (line_shows.next n shift line position cell is)
 
 next_column : (n : Bool) (shift : ℕ) (profile : Profile) (line column cell : ℕ)
     → column + 1 < (size_of profile).columns → (profile ≡ Divided → column + 1 ≡ 8 → ⊥)
-    → shown_at n shift profile line column ≡ Cell cell → shown_at n shift profile line (column + 1) ≡ Cell (next_cell n cell)
+    → shown_at n shift profile line column ≡ Some cell → shown_at n shift profile line (column + 1) ≡ Some (next_cell n cell)
 unfolding size_of place_at
 next_column n shift (Plain size) line column cell k whole is = step_on n shift _ _ _ _ cell refl refl is
 next_column n shift FourRows line column cell k whole is = step_on n shift _ _ _ _ cell refl (omega arith) is
@@ -57,7 +57,7 @@ next_column n shift Divided line column cell k whole is =
 next_column n shift Unknown line column cell k whole is = step_on n shift _ _ _ _ cell refl refl is
 
 next_row : (n : Bool) (shift line cell : ℕ)
-    → shown_at n shift FourRows line 19 ≡ Cell cell → shown_at n shift FourRows (line + 2) 0 ≡ Cell (next_cell n cell)
+    → shown_at n shift FourRows line 19 ≡ Some cell → shown_at n shift FourRows (line + 2) 0 ≡ Some (next_cell n cell)
 unfolding place_at
 next_row n shift line cell is = step_on n shift _ _ _ _ cell (omega arith) (omega arith) is
 
@@ -91,13 +91,13 @@ pub first_line_reads : FirstLineReads
 unfolding cell_in place_at
 first_line_reads =
     record {
-      line_1 = λ shift size column. ap Cell (omega arith);
-      row_1 = λ shift column. ap Cell (omega arith);
-      row_3 = λ shift column. ap Cell (omega arith);
+      line_1 = λ shift size column. ap Some (omega arith);
+      row_1 = λ shift column. ap Some (omega arith);
+      row_3 = λ shift column. ap Some (omega arith);
       column_1 = λ shift column h.
           let first : column / 8 ≡ 0 = omega arith in
           let own : column % 8 ≡ column = omega arith in
-          rw (first, own) (ap Cell (omega arith));
+          rw (first, own) (ap Some (omega arith));
     }
 
 -- A position, shifted on and back again.
@@ -110,18 +110,18 @@ turned_back length shift position h =
 
 -- The place that shows a cell: its line, and its position turned back.
 module _ (driven length shift cell : ℕ) (some : 0 < length) where
-  found : ltb (cell / length) driven ≡ true → cell_in driven length shift (cell / length) ((cell % length + (length - shift % length)) % length) ≡ Cell cell
+  found : ltb (cell / length) driven ≡ true → cell_in driven length shift (cell / length) ((cell % length + (length - shift % length)) % length) ≡ Some cell
   unfolding cell_in
   found driving =
       let turned : cell % length + (length - shift % length) + shift ≡ cell % length + shift + (length - shift % length) = omega arith in
       let back : ((cell % length + (length - shift % length)) % length + shift) % length ≡ cell % length =
       rw (mod-add-mod, turned) (turned_back length shift (cell % length) (mod-lt cell some)) in
-      rw (driving, back) (ap Cell (div-add-mod' cell length))
+      rw (driving, back) (ap Some (div-add-mod' cell length))
 
-  line_of : (line position : ℕ) → cell_in driven length shift line position ≡ Cell cell → cell / length ≡ line
+  line_of : (line position : ℕ) → cell_in driven length shift line position ≡ Some cell → cell / length ≡ line
   line_of line position e = rw (sym (shown_at_lem driven length shift line position cell e).1) (row_of_place length line _ (mod-lt (position + shift) some))
 
-  position_of : (line position : ℕ) → position < length → cell_in driven length shift line position ≡ Cell cell
+  position_of : (line position : ℕ) → position < length → cell_in driven length shift line position ≡ Some cell
       → (cell % length + (length - shift % length)) % length ≡ position
   position_of line position within e =
       let rest : cell % length ≡ (position + shift) % length =

@@ -4,8 +4,8 @@
 use mathlib.Core.Bool.{Bool, true, false≢true}
 use mathlib.Core.List.{List}
 use mathlib.Core.Path.{◌≡◌, refl, sym, ap, ◌∙◌}
-use Prim.Native.Nat.{ℕ, ◌+◌, ◌-◌, ◌*◌, ◌/◌, ◌%◌, ◌≤◌, ◌<◌}
-use native.Mathlib.Nat.{add-zero, div-lt_iff_lt-mul, mod-lt, mul-le-mul}
+use Prim.Native.Nat.{ℕ, ◌+◌, ◌*◌, ◌/◌, ◌%◌, ◌≤◌, ◌<◌}
+use native.Mathlib.Nat.{add-mul, add-zero, div-lt_iff_lt-mul, mod-lt, mul-le-mul, one-mul}
 use native.Mathlib.Omega.{arith}
 use Rattle.controller.specs.declared.«record».Function.{Function}
 use Rattle.controller.specs.declared.«record».Record.{Record}
@@ -14,12 +14,11 @@ use Rattle.dots.specs.declared.panel.Profile.{Profile}
 use Rattle.dots.specs.declared.panel.Profile.TheVariants.{Plain, FourRows, Divided, Unknown}
 use Rattle.dots.specs.declared.panel.Size.{Size}
 use Rattle.dots.specs.declared.stretch.Part.{Part}
-use Rattle.dots.specs.Geometry.{height, picture_room, tallest}
+use Rattle.dots.specs.Geometry.{height, picture_length, picture_room, tallest}
 use Rattle.dots.specs.Panel.{fits_glass, place_at, size_of}
-use Rattle.dots.specs.Picture.{dots_at, painted, picture_byte}
+use Rattle.dots.specs.Picture.{dots_at, picture_byte}
 use Rattle.dots.specs.Stretch.{part_at, stretch, stretches}
-use Rattle.dots.proofs.Painting.{painted_alike}
-use Rattle.dots.proofs.Panels.{panel_columns, panel_lines, panel_some, picture_fits, place_within, plain_lines}
+use Rattle.dots.proofs.Panels.{panel_columns, panel_lines, panel_some, picture_fits, place_within, plain_lines, plain_some}
 use Rattle.dots.proofs.Places.{column_of_place, height_most, height_some, row_ends, row_of_place}
 
 -- All parts together are the picture.
@@ -47,6 +46,12 @@ pub part_ends : (function : Function) (profile : Profile) (at : ℕ) → fits_gl
 part_ends function profile at e h =
     omega (arith, row_ends (stretch profile) at _ h, stretches_fill profile (height function), picture_fits function profile e)
 
+-- And within an output that has room for the picture.
+pub part_within_output : (function : Function) (profile : Profile) (at room : ℕ) → at < stretches profile * height function
+    → picture_length function profile ≤ room → (at + 1) * stretch profile ≤ room
+part_within_output function profile at room h fits =
+    rw (add-mul, one-mul) (omega (arith, row_ends (stretch profile) at _ h, stretches_fill profile (height function)))
+
 -- The first place of a row of a grid.
 first_row : (width row : ℕ) → 0 < width → row * width / width ≡ row
 first_row width row some = ap (λ (k : ℕ). k / width) (sym (add-zero (row * width))) ∙ row_of_place width row 0 some
@@ -55,11 +60,11 @@ first_column : (width row : ℕ) → 0 < width → row * width % width ≡ 0
 first_column width row some = ap (λ (k : ℕ). k % width) (sym (add-zero (row * width))) ∙ column_of_place width row 0 some
 
 -- Where a part begins: a row of a line, and in the divided row a row of one of its halves.
-pub part_plain : (size : Size) (rows at : ℕ) → 0 < size.columns → part_at (Plain size) rows at ≡ record { line = at / rows; row = at % rows; column = 0 }
+part_plain : (size : Size) (rows at : ℕ) → 0 < size.columns → part_at (Plain size) rows at ≡ record { line = at / rows; row = at % rows; column = 0 }
 unfolding part_at stretch size_of
 part_plain size rows at some = rw (first_row size.columns at some, first_column size.columns at some) refl
 
-pub part_four_rows : (rows at : ℕ) → part_at FourRows rows at ≡ record { line = at / rows; row = at % rows; column = 0 }
+part_four_rows : (rows at : ℕ) → part_at FourRows rows at ≡ record { line = at / rows; row = at % rows; column = 0 }
 unfolding part_at stretch size_of
 part_four_rows rows at = rw (first_row 20 at (omega arith), first_column 20 at (omega arith)) refl
 
@@ -69,6 +74,15 @@ part_divided rows at =
     let above : at * 8 / 16 ≡ at / 2 = omega arith in
     let half : at * 8 % 16 ≡ at % 2 * 8 = omega arith in
     rw (above, half) refl
+
+-- Of a panel that is there.
+pub part_whole : (profile : Profile) (rows at : ℕ) → fits_glass profile ≡ true → (profile ≡ Divided → ⊥)
+    → part_at profile rows at ≡ record { line = at / rows; row = at % rows; column = 0 }
+unfolding fits_glass
+part_whole (Plain size) rows at fits other = part_plain size rows at (plain_some size fits)
+part_whole FourRows rows at fits other = part_four_rows rows at
+part_whole Divided rows at fits other = absurd (other refl)
+part_whole Unknown rows at fits other = absurd (false≢true fits)
 
 -- The columns of a part are in the row where it begins, and count on from there.
 same_row : (profile : Profile) (at i : ℕ) → i < stretch profile
@@ -135,40 +149,27 @@ part_is_byte shapes rec mem lit profile at i h =
     let line = at * stretch profile / (size_of profile).columns / height rec.function in
     rw (same_row profile at i h, along_line profile line at i h, along_position profile line at i h) refl
 
--- The bytes of a row of dots from a place on, the first of them at `start`.
-abbrev pub along : List ℕ → Record → List ℕ → Bool → Part → Place → ℕ → ℕ → ℕ
-along shapes rec mem lit part place start at = dots_at shapes rec mem lit place.line part.row (place.position + (at - start))
-
-pub along_next : (shapes : List ℕ) (rec : Record) (mem : List ℕ) (lit : Bool) (part : Part) (place : Place) (start column : ℕ)
-    → dots_at shapes rec mem lit place.line part.row (place.position + column) ≡ along shapes rec mem lit part place start (start + column)
-along_next shapes rec mem lit part place start column = let back : start + column - start ≡ column = omega arith in rw back refl
-
 -- What is known once the place of a part was looked up.
-pub record Begun (rec : Record) (profile : Profile) (at : ℕ) (part : Part) (place : Place) (columns : ℕ) : Type 0 where
+pub record Begun (rec : Record) (profile : Profile) (at : ℕ) (part : Part) (place : Place) : Type 0 where
   pub part_is : part ≡ part_at profile (height rec.function) at
   pub place_is : place ≡ place_at profile part.line part.column
-  pub columns_is : columns ≡ stretch profile
 
-pub begun : (rec : Record) (profile : Profile) (at : ℕ) (part : Part) (place : Place) (columns rows : ℕ) → rows ≡ height rec.function
-    → part ≡ part_at profile rows at → place ≡ place_at profile part.line part.column → columns ≡ stretch profile → Begun rec profile at part place columns
-begun rec profile at part place columns rows high is there wide = record { part_is = rw high at is; place_is = there; columns_is = wide }
+pub begun : (rec : Record) (profile : Profile) (at : ℕ) (part : Part) (place : Place) (rows : ℕ) → rows ≡ height rec.function
+    → part ≡ part_at profile rows at → place ≡ place_at profile part.line part.column → Begun rec profile at part place
+begun rec profile at part place rows high is there = record { part_is = rw high at is; place_is = there }
 
-module _ (rec : Record) (profile : Profile) (at : ℕ) (part : Part) (place : Place) (columns : ℕ) (b : Begun rec profile at part place columns) where
+module _ (rec : Record) (profile : Profile) (at : ℕ) (part : Part) (place : Place) (b : Begun rec profile at part place) where
   -- Its row is one of a line's, and each of its columns stands within 40 positions.
   pub begun_row : part.row < height rec.function
   unfolding part_at
   begun_row = rw b.part_is (mod-lt _ (height_some rec.function))
 
-  pub begun_within : fits_glass profile ≡ true → at < stretches profile * height rec.function → (i : ℕ) → i < columns → place.position + i < 40
+  pub begun_within : fits_glass profile ≡ true → at < stretches profile * height rec.function → (i : ℕ) → i < stretch profile → place.position + i < 40
   begun_within fits within i h =
       rw (b.place_is, b.part_is)
-      (part_within profile (height rec.function) at fits (height_some rec.function) within i (rw b.columns_is at h))
+      (part_within profile (height rec.function) at fits (height_some rec.function) within i h)
 
   -- Its bytes are that part of the picture.
-  pub begun_painted : (shapes mem : List ℕ) (lit : Bool) (out : List ℕ)
-      → painted (along shapes rec mem lit part place (at * columns)) (at * columns) columns out
-      ≡ painted (picture_byte shapes rec mem lit profile) (at * stretch profile) (stretch profile) out
-  begun_painted shapes mem lit out =
-      rw (b.place_is, b.part_is, b.columns_is)
-      (painted_alike _ _ (at * stretch profile) (stretch profile) out
-      (λ i h. sym (along_next shapes rec mem lit (part_at profile (height rec.function) at) _ (at * stretch profile) i) ∙ part_is_byte shapes rec mem lit profile at i h))
+  pub begun_byte : (shapes mem : List ℕ) (lit : Bool) (i : ℕ) → i < stretch profile
+      → dots_at shapes rec mem lit place.line part.row (place.position + i) ≡ picture_byte shapes rec mem lit profile (at * stretch profile + i)
+  begun_byte shapes mem lit i h = rw (b.place_is, b.part_is) (part_is_byte shapes rec mem lit profile at i h)

@@ -9,6 +9,7 @@ use native.Mathlib.Omega.{arith}
 use borrow.Author.Tests.{eq-eqb, eqb-false, eqb-true, lt-ltb, ltb-true, ne_eqb}
 use lib.Dec.{eqb, ltb, lit<}
 use lib.ListN.{length, get_or}
+use Rattle.std.specs.Prelude.{Option, Some, None}
 use Rattle.controller.specs.declared.cells.Counter.{Counter}
 use Rattle.controller.specs.declared.cells.Counter.TheVariants.{Display, Pattern}
 use Rattle.controller.specs.declared.«record».Record.{Record}
@@ -18,8 +19,6 @@ use Rattle.controller.specs.Record.{sound, with_function}
 use Rattle.controller.proofs.Laws.Answers.{none_applies, row_applies, tells_as}
 use Rattle.controller.proofs.Laws.Rows.{sound_tests, whole_tests}
 use Rattle.controller.proofs.Laws.Tests.{Fails, fails_and, fails_le, tests_fails, tests_lt}
-use Rattle.dots.specs.declared.geometry.Shown.{Shown}
-use Rattle.dots.specs.declared.geometry.Shown.TheVariants.{Cell, Undriven}
 use Rattle.dots.specs.declared.panel.Profile.{Profile}
 use Rattle.dots.specs.declared.panel.Profile.TheVariants.{Plain, FourRows, Divided, Unknown}
 use Rattle.dots.specs.declared.panel.Size.{Size}
@@ -79,11 +78,11 @@ row_of_below : (mem : List ℕ) (code row : ℕ) → row_of font mem code row < 
 unfolding row_of
 row_of_below mem code row = either (λ (k : ℕ). k < 32) (ltb code 0x10) _ _ (mod-lt _ (lit< tt)) (row_below _)
 
-shown_below : (rec : Record) (mem : List ℕ) (lit : Bool) (row : ℕ) (shown : Shown) → shown_row font rec mem lit row shown < 32
+shown_below : (rec : Record) (mem : List ℕ) (lit : Bool) (row : ℕ) (shown : Option ℕ) → shown_row font rec mem lit row shown < 32
 unfolding shown_row cell_row
-shown_below rec mem lit row (Cell cell) =
+shown_below rec mem lit row (Some cell) =
     either (λ (k : ℕ). k < 32) (covered rec lit row cell) 0b11111 (row_of font mem (get_or mem cell 0) row) (lit< tt) (row_of_below mem (get_or mem cell 0) row)
-shown_below rec mem lit row Undriven = lit< tt
+shown_below rec mem lit row None = lit< tt
 
 byte_below : (rec : Record) (mem : List ℕ) (lit : Bool) (profile : Profile) (at : ℕ) → picture_byte font rec mem lit profile at < 32
 unfolding picture_byte dots_at
@@ -93,12 +92,12 @@ pub five_dots : FiveDots
 five_dots rec mem profile lit out at d h = rw (byte rec mem profile lit out at d h) (byte_below rec mem lit profile at)
 
 -- What a position shows that shows a cell.
-pub shown_at_lem : (driven length shift line column cell : ℕ) → cell_in driven length shift line column ≡ Cell cell
+pub shown_at_lem : (driven length shift line column cell : ℕ) → cell_in driven length shift line column ≡ Some cell
     → (ltb line driven ≡ true) × (line * length + (column + shift) % length ≡ cell)
 unfolding cell_in
 shown_at_lem driven length shift line column cell = go (ltb line driven)
   where
-    go : (b : Bool) → cond b (Cell (line * length + (column + shift) % length)) Undriven ≡ Cell cell
+    go : (b : Bool) → cond b (Some (line * length + (column + shift) % length)) None ≡ Some cell
         → (b ≡ true) × (line * length + (column + shift) % length ≡ cell)
     go true e = (refl, cc)
     go false e = let z : ◌≡◌ {A = ℕ} 0 1 = cc in absurd (omega arith)
@@ -121,18 +120,18 @@ next_of_40 line place cell h e = go (eqb cell 39) (eqb cell 79) refl refl
     go false true is is' = omega (arith, eqb-true cell 79 is')
     go false false is is' = let not-39 = eqb-false cell 39 is in let not-79 = eqb-false cell 79 is' in omega arith
 
-next_shown : (n : Bool) (shift line position cell : ℕ) → cell_at n shift line position ≡ Cell cell → cell_at n shift line (position + 1) ≡ Cell (next_cell n cell)
+next_shown : (n : Bool) (shift line position cell : ℕ) → cell_at n shift line position ≡ Some cell → cell_at n shift line (position + 1) ≡ Some (next_cell n cell)
 unfolding cell_in
 next_shown true shift line position cell e =
     let at = shown_at_lem 2 40 shift line position cell e in
     let place : position + 1 + shift ≡ position + shift + 1 = omega arith in
-    rw (at.0, place) (ap Cell (next_of_40 line (position + shift) cell (ltb-true line 2 at.0) at.1))
+    rw (at.0, place) (ap Some (next_of_40 line (position + shift) cell (ltb-true line 2 at.0) at.1))
 next_shown false shift line position cell e =
     let at = shown_at_lem 1 80 shift line position cell e in
     let place : position + 1 + shift ≡ position + shift + 1 = omega arith in
-    rw (at.0, place) (ap Cell (next_of_80 line (position + shift) cell (ltb-true line 1 at.0) at.1))
+    rw (at.0, place) (ap Some (next_of_80 line (position + shift) cell (ltb-true line 1 at.0) at.1))
 
-first_shown : (n : Bool) → cell_at n 0 0 0 ≡ Cell 0
+first_shown : (n : Bool) → cell_at n 0 0 0 ≡ Some 0
 unfolding cell_in
 first_shown true = refl
 first_shown false = refl
@@ -188,10 +187,10 @@ cursor_shows shapes rec mem cell =
     }
 
 -- F is read nowhere.
-shown_without_f : (shapes : List ℕ) (rec : Record) (f : Bool) (mem : List ℕ) (lit : Bool) (row : ℕ) (shown : Shown) → shown_row shapes (with_function rec.wide (record { n = rec.function.n; f = f }) rec) mem lit row shown ≡ shown_row shapes rec mem lit row shown
+shown_without_f : (shapes : List ℕ) (rec : Record) (f : Bool) (mem : List ℕ) (lit : Bool) (row : ℕ) (shown : Option ℕ) → shown_row shapes (with_function rec.wide (record { n = rec.function.n; f = f }) rec) mem lit row shown ≡ shown_row shapes rec mem lit row shown
 unfolding shown_row cell_row covered height
-shown_without_f shapes rec f mem lit row (Cell cell) = refl
-shown_without_f shapes rec f mem lit row Undriven = refl
+shown_without_f shapes rec f mem lit row (Some cell) = refl
+shown_without_f shapes rec f mem lit row None = refl
 
 byte_without_f : (rec : Record) (f : Bool) (mem : List ℕ) (lit : Bool) (profile : Profile) (at : ℕ) → picture_byte font (with_function rec.wide (record { n = rec.function.n; f = f }) rec) mem lit profile at ≡ picture_byte font rec mem lit profile at
 unfolding picture_byte dots_at height

@@ -1,11 +1,9 @@
 -- The size of a picture, and the display cell that each position shows (document 01, "The dots"). Lines, rows and columns count
 -- from 0, so that line 2 is number 1 and the eighth row number 7.
 -- Assumes nothing.
-use Rattle.std.specs.Prelude.{Bool, cond, ◌&&◌, ℕ, ◌+◌, ◌-◌, ◌*◌, ◌/◌, ◌%◌, ◌<◌, ltb}
+use Rattle.std.specs.Prelude.{Bool, cond, ◌&&◌, ℕ, ◌+◌, ◌-◌, ◌*◌, ◌/◌, ◌%◌, ◌<◌, ltb, Option, Some, None}
 use Rattle.controller.specs.declared.«record».Function.{Function}
 use Rattle.controller.specs.Cells.{line_length}
-use Rattle.dots.specs.declared.geometry.Shown.{Shown}
-use Rattle.dots.specs.declared.geometry.Shown.TheVariants.{Cell, Undriven}
 use Rattle.dots.specs.declared.panel.Profile.{Profile}
 use Rattle.dots.specs.Panel.{on_glass, place_at, size_of}
 
@@ -31,16 +29,16 @@ driven_lines n = cond n 2 1
 
 -- Position p shows cell (p + shift) modulo L of its line, and nothing where the line is not driven. The cells of line 2
 -- follow those of line 1.
-unfoldable pub cell_in : ℕ → ℕ → ℕ → ℕ → ℕ → Shown
+unfoldable pub cell_in : ℕ → ℕ → ℕ → ℕ → ℕ → Option ℕ
 cell_in driven length shift line position =
-    cond (ltb line driven) (Cell (line * length + (position + shift) % length)) Undriven
+    cond (ltb line driven) (Some (line * length + (position + shift) % length)) None
 
 -- The cell of a position: line length L is 80 (N=0) or 40 (N=1).
-abbrev pub cell_at : Bool → ℕ → ℕ → ℕ → Shown
+abbrev pub cell_at : Bool → ℕ → ℕ → ℕ → Option ℕ
 cell_at n shift line position = cell_in (driven_lines n) (line_length n) shift line position
 
 -- The cell that a position of the glass shows: that of its place.
-abbrev pub shown_at : Bool → ℕ → Profile → ℕ → ℕ → Shown
+abbrev pub shown_at : Bool → ℕ → Profile → ℕ → ℕ → Option ℕ
 shown_at n shift profile line column =
     cell_at n shift (place_at profile line column).line (place_at profile line column).position
 
@@ -55,6 +53,6 @@ abbrev pub is_shown : Bool → ℕ → Profile → ℕ → Bool
 is_shown n shift profile cell = is_shown_in (driven_lines n) (line_length n) shift profile cell
 
 -- What is shown is a display cell, 0 to 79, where it is a cell.
-abbrev pub ShownWithin : Shown → Type 0
-ShownWithin (Cell cell) = cell < 80
-ShownWithin Undriven = Unit {0}
+abbrev pub ShownWithin : Option ℕ → Type 0
+ShownWithin (Some cell) = cell < 80
+ShownWithin None = Unit {0}

@@ -1,7 +1,7 @@
 -- The dots of a picture and the call that draws it, with its refusals in order (document 01, "The dots", "What each number
 -- says").
 -- Assumes nothing.
-use Rattle.std.specs.Prelude.{Bool, false, cond, not, ◌&&◌, ◌||◌, List, ◌≡◌, ℕ, zero, suc, ◌+◌, ◌*◌, ◌/◌, ◌%◌, ◌<◌, ltb, eqb, length, get_or, set}
+use Rattle.std.specs.Prelude.{Bool, false, cond, not, ◌&&◌, ◌||◌, List, ◌≡◌, ℕ, zero, suc, ◌+◌, ◌*◌, ◌/◌, ◌%◌, ltb, eqb, length, get_or, set, Option, Some, None, Result, Ok, Err, ⊤}
 use Rattle.controller.specs.declared.cells.Counter.{Counter}
 use Rattle.controller.specs.declared.cells.Counter.TheVariants.{Display, Pattern}
 use Rattle.controller.specs.declared.answers.Answer.{Answer}
@@ -11,10 +11,8 @@ use Rattle.controller.specs.declared.«record».Record.{Record}
 use Rattle.controller.specs.Bus.{whole}
 use Rattle.controller.specs.Answers.{number_of, is_refusal}
 use Rattle.controller.specs.Record.{sound}
-use Rattle.dots.specs.declared.geometry.Shown.{Shown}
-use Rattle.dots.specs.declared.geometry.Shown.TheVariants.{Cell, Undriven}
 use Rattle.dots.specs.declared.panel.Profile.{Profile}
-use Rattle.dots.specs.Font.{font, table_length, table_row}
+use Rattle.dots.specs.Font.{font, table_row}
 use Rattle.dots.specs.Geometry.{height, picture_length, cell_at}
 use Rattle.dots.specs.Panel.{fits_glass, place_at, size_of}
 
@@ -44,9 +42,9 @@ unfoldable pub cell_row : List ℕ → Record → List ℕ → Bool → ℕ → 
 cell_row shapes rec mem lit row cell = cond (covered rec lit row cell) 0b11111 (row_of shapes mem (get_or mem cell 0) row)
 
 -- A line that is not driven is zero.
-unfoldable pub shown_row : List ℕ → Record → List ℕ → Bool → ℕ → Shown → ℕ
-shown_row shapes rec mem lit row (Cell cell) = cell_row shapes rec mem lit row cell
-shown_row shapes rec mem lit row Undriven = 0
+unfoldable pub shown_row : List ℕ → Record → List ℕ → Bool → ℕ → Option ℕ → ℕ
+shown_row shapes rec mem lit row (Some cell) = cell_row shapes rec mem lit row cell
+shown_row shapes rec mem lit row None = 0
 
 -- The five dots at a line of the controller, a row and a position, bit 4 leftmost. D=0: all zero.
 unfoldable pub dots_at : List ℕ → Record → List ℕ → Bool → ℕ → ℕ → ℕ → ℕ
@@ -93,15 +91,25 @@ output rec mem profile lit out =
     output_left (answered rec mem profile (length out)) (picture_byte font rec mem lit profile)
     (picture_length rec.function profile) out
 
--- What `picture` promises: the answer, its number in the table, and every byte of the output.
+-- What a picture that is answered so tells: the answer, its number in the table, and every byte of the output.
 pub record Pictured (rec : Record) (mem : List ℕ) (profile : Profile) (lit : Bool) (before : List ℕ) (answer : Answer)
     (after : List ℕ) : Type 0 where
   pub told : answer ≡ answered rec mem profile (length before)
   pub number : number_of answer ≡ number_of (answered rec mem profile (length before))
   pub out : after ≡ output rec mem profile lit before
 
--- What the functions that draw lean on: of a sound record the shift, and the lengths of the table and of the memory.
-pub record Drawable (shapes : List ℕ) (rec : Record) (mem : List ℕ) : Type 0 where
-  pub table : length shapes ≡ table_length
-  pub shift : rec.shift < 80
-  pub whole : length mem ≡ 144
+-- The result that tells an answer: the refusal, or nothing more where it is 0.
+abbrev pub result_of : Answer → Result ⊤ Answer
+result_of Done = Ok tt
+result_of refusal = Err refusal
+
+-- The answer that a result tells.
+abbrev pub answer_of : Result ⊤ Answer → Answer
+answer_of (Ok done) = Done
+answer_of (Err refusal) = refusal
+
+-- What `picture` promises: the result, and the picture with the answer that it tells.
+pub record PictureReturns (rec : Record) (mem : List ℕ) (profile : Profile) (lit : Bool) (before : List ℕ)
+    (returned : Result ⊤ Answer) (after : List ℕ) : Type 0 where
+  pub told : returned ≡ result_of (answered rec mem profile (length before))
+  pub pictured : Pictured rec mem profile lit before (answer_of returned) after

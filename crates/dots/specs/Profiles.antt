@@ -2,11 +2,9 @@
 -- on; what N=0 leaves; that no cell shows at two positions; and which cells a glass shows. Each theorem is a type here, and its
 -- proof stands in proofs/Profiles.antt.
 -- Assumes nothing.
-use Rattle.std.specs.Prelude.{Bool, true, false, List, ◌↔◌, ◌≡◌, ℕ, ◌+◌, ◌%◌, ◌≤◌, ◌<◌}
+use Rattle.std.specs.Prelude.{Bool, true, false, List, ◌↔◌, ◌≡◌, ℕ, ◌+◌, ◌%◌, ◌≤◌, ◌<◌, Option, Some, None}
 use Rattle.controller.specs.declared.«record».Record.{Record}
 use Rattle.controller.specs.Cells.{add_of_cell}
-use Rattle.dots.specs.declared.geometry.Shown.{Shown}
-use Rattle.dots.specs.declared.geometry.Shown.TheVariants.{Cell, Undriven}
 use Rattle.dots.specs.declared.panel.Profile.{Profile}
 use Rattle.dots.specs.declared.panel.Profile.TheVariants.{Plain, FourRows, Divided}
 use Rattle.dots.specs.declared.panel.Size.{Size}
@@ -22,9 +20,9 @@ pub record PanelSizes : Type 0 where
   pub divided : ((size_of Divided).columns ≡ 16) × ((size_of Divided).lines ≡ 1)
 
 -- What is shown is the display cell at this address.
-abbrev pub ShowsAddress : Bool → Shown → ℕ → Type 0
-ShowsAddress n (Cell cell) address = (add_of_cell n cell).0 ≡ address
-ShowsAddress n Undriven address = ⊥
+abbrev pub ShowsAddress : Bool → Option ℕ → ℕ → Type 0
+ShowsAddress n (Some cell) address = (add_of_cell n cell).0 ≡ address
+ShowsAddress n None address = ⊥
 
 -- With N=1, at shift 0, this line and column of the glass shows the display cell at this address.
 abbrev pub StartsAt : Profile → ℕ → ℕ → ℕ → Type 0
@@ -48,13 +46,13 @@ pub record RowsRun : Type 0 where
   pub next :
       (n : Bool) (shift : ℕ) (profile : Profile) (line column cell : ℕ)
       → column + 1 < (size_of profile).columns → (profile ≡ Divided → column + 1 ≡ 8 → ⊥)
-      → shown_at n shift profile line column ≡ Cell cell → shown_at n shift profile line (column + 1) ≡ Cell (next_cell n cell)
+      → shown_at n shift profile line column ≡ Some cell → shown_at n shift profile line (column + 1) ≡ Some (next_cell n cell)
   pub below :
       (n : Bool) (shift line cell : ℕ)
-      → shown_at n shift FourRows line 19 ≡ Cell cell → shown_at n shift FourRows (line + 2) 0 ≡ Cell (next_cell n cell)
+      → shown_at n shift FourRows line 19 ≡ Some cell → shown_at n shift FourRows (line + 2) 0 ≡ Some (next_cell n cell)
   pub shifted :
       (n : Bool) (shift : ℕ) (profile : Profile) (line column cell : ℕ)
-      → shown_at n shift profile line column ≡ Cell cell → shown_at n (shift + 1) profile line column ≡ Cell (next_cell n cell)
+      → shown_at n shift profile line column ≡ Some cell → shown_at n (shift + 1) profile line column ≡ Some (next_cell n cell)
 
 -- With N=0 this line and column of the glass is zero.
 abbrev pub Dark : Profile → ℕ → ℕ → Type 0
@@ -71,10 +69,10 @@ pub record SecondLineDark : Type 0 where
 
 -- N=0: the others read their cell plus shift modulo 80.
 pub record FirstLineReads : Type 0 where
-  pub line_1 : (shift : ℕ) (size : Size) (column : ℕ) → shown_at false shift (Plain size) 0 column ≡ Cell ((column + shift) % 80)
-  pub row_1 : (shift column : ℕ) → shown_at false shift FourRows 0 column ≡ Cell ((column + shift) % 80)
-  pub row_3 : (shift column : ℕ) → shown_at false shift FourRows 2 column ≡ Cell ((0x14 + column + shift) % 80)
-  pub column_1 : (shift column : ℕ) → column < 8 → shown_at false shift Divided 0 column ≡ Cell ((column + shift) % 80)
+  pub line_1 : (shift : ℕ) (size : Size) (column : ℕ) → shown_at false shift (Plain size) 0 column ≡ Some ((column + shift) % 80)
+  pub row_1 : (shift column : ℕ) → shown_at false shift FourRows 0 column ≡ Some ((column + shift) % 80)
+  pub row_3 : (shift column : ℕ) → shown_at false shift FourRows 2 column ≡ Some ((0x14 + column + shift) % 80)
+  pub column_1 : (shift column : ℕ) → column < 8 → shown_at false shift Divided 0 column ≡ Some ((column + shift) % 80)
 
 -- At shift 0 no cell shows at two positions, nor at any other shift: for every panel and both N.
 abbrev pub OnePosition : Type 0
@@ -82,7 +80,7 @@ OnePosition =
     (n : Bool) (shift : ℕ) (profile : Profile) (cell line column line' column' : ℕ)
     → fits_glass profile ≡ true → line < (size_of profile).lines → line' < (size_of profile).lines
     → column < (size_of profile).columns → column' < (size_of profile).columns
-    → shown_at n shift profile line column ≡ Cell cell → shown_at n shift profile line' column' ≡ Cell cell
+    → shown_at n shift profile line column ≡ Some cell → shown_at n shift profile line' column' ≡ Some cell
     → (line ≡ line') × (column ≡ column')
 
 -- A position of the glass, and the display cell that it shows.
@@ -91,7 +89,7 @@ pub record Position (n : Bool) (shift : ℕ) (profile : Profile) (cell : ℕ) : 
   pub column : ℕ
   pub on_line : line < (size_of profile).lines
   pub on_column : column < (size_of profile).columns
-  pub shows : shown_at n shift profile line column ≡ Cell cell
+  pub shows : shown_at n shift profile line column ≡ Some cell
 
 -- A display cell is shown exactly where a position of the glass shows it.
 abbrev pub OnGlass : Type 0

@@ -3,7 +3,7 @@
 -- wrong. Each theorem is a type here, and its proof stands in proofs/Theorems.antt or, of the table, in proofs/Table.antt.
 -- The theorems of the panels stand in Profiles.antt.
 -- Assumes nothing.
-use Rattle.std.specs.Prelude.{Bool, true, false, cond, ◌&&◌, List, [], ◌∷◌, ◌⊎◌, ◌≡◌, ℕ, ◌+◌, ◌*◌, ◌%◌, ◌≤◌, ◌<◌, eqb, length, get_or}
+use Rattle.std.specs.Prelude.{Bool, true, false, cond, ◌&&◌, List, [], ◌∷◌, ◌⊎◌, ◌≡◌, ℕ, ◌+◌, ◌*◌, ◌%◌, ◌≤◌, ◌<◌, eqb, length, get_or, Some}
 use Rattle.controller.specs.declared.cells.Counter.TheVariants.{Display}
 use Rattle.controller.specs.declared.answers.Answer.{Answer}
 use Rattle.controller.specs.declared.answers.Answer.TheVariants.{Done}
@@ -12,7 +12,6 @@ use Rattle.controller.specs.declared.«record».Record.{Record}
 use Rattle.controller.specs.Answers.{is_refusal, number_of, Row, Tells}
 use Rattle.controller.specs.Record.{with_function}
 use Rattle.controller.specs.Rows.{Breaks, NotLong}
-use Rattle.dots.specs.declared.geometry.Shown.TheVariants.{Cell}
 use Rattle.dots.specs.declared.panel.Profile.{Profile}
 use Rattle.dots.specs.declared.panel.Profile.TheVariants.{Plain, FourRows, Divided, Unknown}
 use Rattle.dots.specs.Font.{font, shape_rows, table_length, table_row}
@@ -60,18 +59,18 @@ next_cell true cell = cond (eqb cell 39) 0 (cond (eqb cell 79) 40 (cell + 1))
 -- The cell of each position of a line, by steps. At shift 0 line 1 begins with cell 0 and, with N=1, line 2 with cell 40. The
 -- next position shows the next cell of the line, and one more shift shows at each position what the next one showed.
 pub record LineShows : Type 0 where
-  pub first : (n : Bool) → cell_at n 0 0 0 ≡ Cell 0
-  pub second : cell_at true 0 1 0 ≡ Cell 40
+  pub first : (n : Bool) → cell_at n 0 0 0 ≡ Some 0
+  pub second : cell_at true 0 1 0 ≡ Some 40
   pub next :
       (n : Bool) (shift line position cell : ℕ)
-      → cell_at n shift line position ≡ Cell cell → cell_at n shift line (position + 1) ≡ Cell (next_cell n cell)
+      → cell_at n shift line position ≡ Some cell → cell_at n shift line (position + 1) ≡ Some (next_cell n cell)
   pub shifted : (n : Bool) (shift line position : ℕ) → cell_at n (shift + 1) line position ≡ cell_at n shift line (position + 1)
 
 -- With D=1 a position of the glass that shows a cell has the dots of that cell.
 abbrev pub PositionDots : Type 0
 PositionDots =
     (shapes : List ℕ) (rec : Record) (mem : List ℕ) (lit : Bool) (profile : Profile) (line row column cell : ℕ)
-    → rec.control.d ≡ true → shown_at rec.function.n rec.shift profile line column ≡ Cell cell
+    → rec.control.d ≡ true → shown_at rec.function.n rec.shift profile line column ≡ Some cell
     → dots_on shapes rec mem lit profile line row column ≡ cell_row shapes rec mem lit row cell
 
 -- The low five bits of a byte: below 32, and the byte is a multiple of 32 more.

@@ -1,7 +1,7 @@
 // The fixed table of shapes: 256 codes of eight rows, five dots a row, bit 4 leftmost. 20h to 7Dh are drawn, in the
 // upper seven rows; every other code is blank.
-ghost use Rattle.std.specs.Prelude.{◌≡◌, ◌<◌, length};
-ghost use Rattle.dots.specs.Font.{font, shape_rows, table_length, table_row};
+ghost use Rattle.std.specs.Prelude.{◌≡◌, ◌<◌};
+ghost use Rattle.dots.specs.Font.{font, shape_rows, table_row};
 
 const FONT: [u8; 2048] = [
     // 00h to 1Fh: blank
@@ -326,18 +326,11 @@ const FONT: [u8; 2048] = [
     0b00000, 0b00000, 0b00000, 0b00000, 0b00000, 0b00000, 0b00000, 0b00000, 0b00000, 0b00000,
 ];
 
-// The whole table.
-pub fn table() -> [u8; 2048]
-    ensures { result ≡ font }
+// One row of a code's shape.
+#[tactic(auto, unfolding(crate::specs::Font::font, crate::specs::Font::drawn_shapes))]
+pub fn table_row(code: u8, row: usize) -> u8
+    requires { row < shape_rows }
+    ensures { result ≡ table_row font code row }
 {
-    FONT
-}
-
-// One row of a code's shape in a table of shapes.
-pub fn table_row(shapes: &[u8], code: u8, row: usize) -> u8
-    requires { (length shapes.now ≡ table_length) × (row < shape_rows) }
-    ensures { result ≡ table_row shapes.now code row }
-{
-    let at = code as usize * 8 + row;
-    shapes[at]
+    FONT[code as usize * 8 + row]
 }

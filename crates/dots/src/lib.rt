@@ -5,8 +5,9 @@ mod draw;
 mod font;
 mod geometry;
 mod panel;
+mod scene;
 mod stretch;
 
 pub use draw::picture;
-pub use geometry::{PICTURE_ROOM, Shown, is_shown, rows_of, shown_at};
+pub use geometry::{PICTURE_ROOM, is_shown, rows_of, shown_at};
 pub use panel::{Profile, Size, size_of};

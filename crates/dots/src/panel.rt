@@ -28,6 +28,7 @@ pub struct Place {
 }
 
 // The size of a panel.
+#[tactic(auto, unfolding(crate::specs::Panel::size_of))]
 pub fn size_of(profile: Profile) -> Size
     ensures { SizeOfPromise profile result }
 {
@@ -49,31 +50,33 @@ pub fn size_of(profile: Profile) -> Size
 }
 
 // The one place where a size is tested: columns 1 to 40, lines 1 or 2.
+#[tactic(auto, unfolding(crate::specs::Panel::fits_plain))]
 fn is_plain(size: Size) -> bool
     ensures { result ≡ fits_plain size }
 {
-    1 <= size.columns && (size.columns <= 40 && (1 <= size.lines && size.lines <= 2))
+    matches!(size.columns, 1..=40) && matches!(size.lines, 1..=2)
 }
 
 // Whether there is such a panel.
+#[tactic(auto, unfolding(crate::specs::Panel::fits_glass))]
 pub fn fits_glass(profile: Profile) -> bool
     ensures { result ≡ fits_glass profile }
 {
     match profile {
         Profile::Plain(size) => is_plain(size),
-        Profile::FourRows => true,
-        Profile::Divided => true,
+        Profile::FourRows | Profile::Divided => true,
         Profile::Unknown => false,
     }
 }
 
 // Where a position of the glass stands.
+#[tactic(auto, unfolding(crate::specs::Panel::place_at))]
 pub fn place_at(profile: Profile, line: usize, column: usize) -> Place
     requires { (line ≤ 255) × (column ≤ 255) }
     ensures { result ≡ place_at profile line column }
 {
     match profile {
-        Profile::Plain(_) => Place {
+        Profile::Plain(_) | Profile::Unknown => Place {
             line,
             position: column,
         },
@@ -85,14 +88,11 @@ pub fn place_at(profile: Profile, line: usize, column: usize) -> Place
             line: column / 8,
             position: column % 8,
         },
-        Profile::Unknown => Place {
-            line,
-            position: column,
-        },
     }
 }
 
 // Whether a position of the glass stands at this place.
+#[tactic(auto, unfolding(crate::specs::Panel::on_glass))]
 pub fn on_glass(profile: Profile, line: u8, position: u8) -> bool
     ensures { result ≡ on_glass profile line position }
 {

@@ -1,5 +1,5 @@
 // A glass in stretches: columns that follow one another in one line of the controller, so that their place is looked up once.
-ghost use Rattle.std.specs.Prelude.{true, ◌≡◌, ◌/◌, ◌%◌, ◌<◌};
+ghost use Rattle.std.specs.Prelude.{true, ◌≡◌, ◌<◌};
 ghost use Rattle.dots.specs.Panel.{fits_glass};
 ghost use Rattle.dots.specs.Stretch.{part_at, stretch, stretches};
 
@@ -14,6 +14,7 @@ pub struct Part {
 }
 
 // The columns of a stretch.
+#[tactic(auto, unfolding(crate::specs::Stretch::stretch))]
 pub fn stretch_of(profile: Profile) -> usize
     ensures { result ≡ stretch profile }
 {
@@ -26,6 +27,7 @@ pub fn stretch_of(profile: Profile) -> usize
 }
 
 // The stretches of a glass.
+#[tactic(auto, unfolding(crate::specs::Stretch::stretches))]
 pub fn stretches_of(profile: Profile) -> usize
     ensures { result ≡ stretches profile }
 {
@@ -37,31 +39,22 @@ pub fn stretches_of(profile: Profile) -> usize
     }
 }
 
-// The same where stretches are whole lines.
-fn whole_lines(rows: usize, at: usize) -> Part
-    requires { 0 < rows }
-    ensures { result ≡ record { line = at / rows; row = at % rows; column = 0 } }
-{
-    Part {
-        line: at / rows,
-        row: at % rows,
-        column: 0,
-    }
-}
-
-// Where the part of this number in a picture begins, where a line has so many rows.
+// Where the part of this number in a picture begins, where a line has so many rows. Stretches are whole lines, but in the divided
+// row.
 pub fn part_at(profile: Profile, rows: usize, at: usize) -> Part
     requires { (0 < rows) × (fits_glass profile ≡ true) }
     ensures { result ≡ part_at profile rows at }
 {
     match profile {
-        Profile::Plain(_) => whole_lines(rows, at),
-        Profile::FourRows => whole_lines(rows, at),
         Profile::Divided => Part {
             line: at / 2 / rows,
             row: at / 2 % rows,
             column: at % 2 * 8,
         },
-        Profile::Unknown => whole_lines(rows, at),
+        _ => Part {
+            line: at / rows,
+            row: at % rows,
+            column: 0,
+        },
     }
 }
