@@ -1,121 +1,68 @@
 // A bad line, told on standard error: its number and column, what may stand there, and a hint where the byte there gives one.
-use crate::output::{Sent, send};
-use crate::words::put_name;
-use controller::number;
-use lines::{first, put_byte, put_number, put_text, read_line};
+use crate::output::Unheard;
+use crate::words::tell;
+use controller::Answer;
+use lines::read_line;
 use std::io::Write;
 
-// More than any of these takes.
-const OUTPUT: usize = 512;
-
-// What is left of a text from a place on: nothing where it has fewer bytes.
-fn rest_of(text: &[u8], from: usize) -> &[u8] {
-    if text.len() < from {
-        return first(text, 0);
-    }
-    &text[from..]
-}
-
-// The line's number and the column, counted from 1.
-fn put_place(out: &mut [u8], at: usize, line: u64, column: u64) -> usize {
-    let called = put_text(out, at, b"line ");
-    let counted = put_number(out, called, line);
-    let parted = put_text(out, counted, b", column ");
-    let placed = put_number(out, parted, column);
-    put_text(out, placed, b": ")
-}
-
 // What may stand in the field that has this answer's fault.
-fn put_rule(out: &mut [u8], at: usize, answer: u8) -> usize {
-    if answer == 16 {
-        return put_text(out, at, b"a kind is I, D, S or R, then a tab");
+fn rule_of(answer: Answer) -> &'static str {
+    match answer {
+        Answer::BadKind => "a kind is I, D, S or R, then a tab",
+        Answer::BadByte => "a byte is two hex digits in capitals, 00 for S and R, then a tab",
+        Answer::BadWait => "a wait is decimal digits, without leading zeros, then a newline",
+        _ => "a wait ends with a newline",
     }
-    if answer == 17 {
-        return put_text(
-            out,
-            at,
-            b"a byte is two hex digits in capitals, 00 for S and R, then a tab",
-        );
-    }
-    if answer == 18 {
-        return put_text(
-            out,
-            at,
-            b"a wait is decimal digits, without leading zeros, then a newline",
-        );
-    }
-    put_text(out, at, b"a wait ends with a newline")
 }
 
 // A small letter in the place of a kind or of a hex digit.
-fn is_small(answer: u8, offset: usize, byte: u8) -> bool {
-    if answer == 16 && offset == 0 {
-        return byte == b'i' || (byte == b'd' || (byte == b's' || byte == b'r'));
+fn is_small(answer: Answer, offset: usize, byte: u8) -> bool {
+    match (answer, offset) {
+        (Answer::BadKind, 0) => matches!(byte, b'i' | b'd' | b's' | b'r'),
+        (Answer::BadByte, 0..4) => matches!(byte, b'a'..=b'f'),
+        _ => false,
     }
-    answer == 17 && (offset < 4 && (b'a' <= byte && byte <= b'f'))
 }
 
 // What a byte that cannot stand tells a typist, if anything.
-fn put_hint(out: &mut [u8], at: usize, answer: u8, offset: usize, byte: u8) -> usize {
-    if byte == b'\r' {
-        return put_text(
-            out,
-            at,
-            b" (there is a carriage return: end lines with a newline alone)",
-        );
+fn hint_of(answer: Answer, offset: usize, byte: u8) -> &'static str {
+    match (byte, answer) {
+        (b'\r', _) => " (there is a carriage return: end lines with a newline alone)",
+        (b' ', _) => " (there is a blank: fields are parted by one tab)",
+        (b'\n', _) if offset == 0 => " (there is an empty line)",
+        _ if is_small(answer, offset, byte) => " (there is a small letter: letters are capitals)",
+        (_, Answer::BadWait) if 6 < offset => " (the largest wait is 4294967295)",
+        _ => "",
     }
-    if byte == b' ' {
-        return put_text(
-            out,
-            at,
-            b" (there is a blank: fields are parted by one tab)",
-        );
-    }
-    if byte == b'\n' && offset == 0 {
-        return put_text(out, at, b" (there is an empty line)");
-    }
-    if is_small(answer, offset, byte) {
-        return put_text(out, at, b" (there is a small letter: letters are capitals)");
-    }
-    if answer == 18 && 6 < offset {
-        return put_text(out, at, b" (the largest wait is 4294967295)");
-    }
-    at
 }
 
 // What the byte at the fault tells, or that the text ends there.
-fn put_cause(out: &mut [u8], at: usize, answer: u8, offset: usize, rest: &[u8]) -> usize {
-    if offset < rest.len() {
-        return put_hint(out, at, answer, offset, rest[offset]);
+fn cause_of(answer: Answer, offset: usize, there: Option<u8>) -> &'static str {
+    match (there, answer) {
+        (Some(byte), _) => hint_of(answer, offset, byte),
+        (None, Answer::NoNewline) => " (the text ends there: the last line needs its newline too)",
+        (None, _) => " (the text ends there)",
     }
-    if answer == 19 {
-        return put_text(
-            out,
-            at,
-            b" (the text ends there: the last line needs its newline too)",
-        );
-    }
-    put_text(out, at, b" (the text ends there)")
 }
 
 // The bad line of this number that begins at this place of a text.
 pub fn tell_bad_line<W: Write>(
     errors: &mut W,
-    program: &[u8],
+    program: &str,
     line: u64,
     text: &[u8],
     from: usize,
-) -> Sent {
-    let rest = rest_of(text, from);
+) -> Result<(), Unheard> {
+    let rest = &text[from.min(text.len())..];
     let read = read_line(rest);
-    let told = read.answer;
-    let answer = number(told);
+    let answer = read.answer;
     let offset = read.offset;
-    let mut out = [0u8; OUTPUT];
-    let named = put_name(&mut out, program);
-    let placed = put_place(&mut out, named, line, offset as u64 + 1);
-    let ruled = put_rule(&mut out, placed, answer);
-    let caused = put_cause(&mut out, ruled, answer, offset, rest);
-    let ended = put_byte(&mut out, caused, b'\n');
-    send(errors, first(&out, ended))
+    let column = offset + 1;
+    let rule = rule_of(answer);
+    let cause = cause_of(answer, offset, rest.get(offset).copied());
+    tell(
+        errors,
+        program,
+        format_args!("line {line}, column {column}: {rule}{cause}"),
+    )
 }

@@ -1,87 +1,84 @@
 // What is told on standard error. Where even that cannot be written, there is nobody left to tell.
-ghost use Rattle.std.specs.Prelude.{◌≡◌};
+ghost use Rattle.std.specs.Prelude.{◌≡◌, true, IsOk};
 ghost use Rattle.std.specs.Io.KnownBytes.{Appends};
-ghost use Rattle.telling.specs.declared.output.Sent.TheVariants.{Whole};
 
-use crate::output::{Sent, is_failed, is_heard, send};
-use lines::{first, put_byte, put_text};
-use std::io::Write;
+use crate::output::{Unheard, Unsent, heard, send};
+use lines::Page;
+use std::fmt::{Display, Write};
+use std::io;
 
-// More than any of these takes.
-const OUTPUT: usize = 512;
+// More than any line that is told takes.
+const LONGEST: usize = 1024;
 
-// Puts the name of a program before its words.
-pub fn put_name(out: &mut [u8], program: &[u8]) -> usize {
-    let named = put_text(out, 0, program);
-    put_text(out, named, b": ")
+// A program's name and words, as one line, in one write, so that lines of several programs do not mix.
+pub fn tell<W: io::Write, D: Display + Drop>(
+    errors: &mut W,
+    program: &str,
+    words: D,
+) -> Result<(), Unheard> {
+    let mut page = Page::<LONGEST>::new();
+    // A page takes every text.
+    let _ = writeln!(page, "{program}: {words}");
+    heard(send(errors, page.text()))
 }
 
-// A program's name and words, as one line.
-pub fn tell<W: Write>(errors: &mut W, program: &[u8], words: &[u8]) -> Sent {
-    let mut out = [0u8; OUTPUT];
-    let named = put_name(&mut out, program);
-    let told = put_text(&mut out, named, words);
-    let ended = put_byte(&mut out, told, b'\n');
-    send(errors, first(&out, ended))
-}
-
-// The same with what became of the run behind the words, as `Nothing was played.`
-fn tell_end<W: Write>(errors: &mut W, program: &[u8], words: &[u8], left: &[u8]) -> Sent {
-    let mut out = [0u8; OUTPUT];
-    let named = put_name(&mut out, program);
-    let told = put_text(&mut out, named, words);
-    let parted = put_byte(&mut out, told, b' ');
-    let closed = put_text(&mut out, parted, left);
-    let ended = put_byte(&mut out, closed, b'\n');
-    send(errors, first(&out, ended))
-}
-
-// A session longer than the limit, and what became of the run.
-pub fn tell_too_long<W: Write>(errors: &mut W, program: &[u8], left: &[u8]) -> Sent {
-    tell_end(
+// A session longer than the limit, and what became of the run, as `Nothing was played.`
+pub fn tell_too_long<W: io::Write>(
+    errors: &mut W,
+    program: &str,
+    left: &str,
+) -> Result<(), Unheard> {
+    tell(
         errors,
         program,
-        b"the session is longer than 65,536 bytes, the most that is taken.",
-        left,
+        format_args!("the session is longer than 65,536 bytes, the most that is taken. {left}"),
     )
 }
 
 // A read of standard input that failed, so that what was read before may end anywhere, and what became of the run.
-pub fn tell_unread<W: Write>(errors: &mut W, program: &[u8], left: &[u8]) -> Sent {
-    tell_end(
+pub fn tell_unread<W: io::Write>(errors: &mut W, program: &str, left: &str) -> Result<(), Unheard> {
+    tell(
         errors,
         program,
-        b"standard input could not be read to its end.",
-        left,
+        format_args!("standard input could not be read to its end. {left}"),
     )
 }
 
 // A write to standard output that failed.
-pub fn tell_unwritten<W: Write>(errors: &mut W, program: &[u8]) -> Sent {
-    tell_end(
+fn tell_unwritten<W: io::Write>(errors: &mut W, program: &str) -> Result<(), Unheard> {
+    tell(
         errors,
         program,
-        b"standard output could not be written.",
-        b"What stands there is not whole.",
+        "standard output could not be written. What stands there is not whole.",
     )
 }
 
-// Writes a text to standard output, or tells that it could not: what became of it or, where nobody reads these words, of them.
-pub fn send_or_tell<O: Write, E: Write>(
+// Writes a text to standard output, or tells that it could not: whether all of it was written.
+pub fn send_or_tell<O: io::Write, E: io::Write>(
     output: &mut O,
     errors: &mut E,
-    program: &[u8],
+    program: &str,
     text: &[u8],
-) -> Sent
-    ensures { result ≡ Whole → Appends (O.contents output.old) (O.contents output.new) text.now }
+) -> Result<bool, Unheard>
+    ensures { result ≡ Ok true → Appends (O.contents output.old) (O.contents output.new) text.now }
 {
-    let sent = send(output, text);
-    if !is_failed(sent) {
-        return sent;
+    whole_or_told(send(output, text), errors, program)
+}
+
+// What became of a text: whether all of it was written, and where it was not that is told.
+pub fn whole_or_told<E: io::Write>(
+    sent: Result<(), Unsent>,
+    errors: &mut E,
+    program: &str,
+) -> Result<bool, Unheard>
+    ensures { result ≡ Ok true → IsOk sent }
+{
+    match sent {
+        Ok(()) => Ok(true),
+        Err(Unsent::Failed) => {
+            tell_unwritten(errors, program)?;
+            Ok(false)
+        }
+        Err(Unsent::Unheard) => Err(Unheard),
     }
-    let told = tell_unwritten(errors, program);
-    if is_heard(told) {
-        return sent;
-    }
-    told
 }

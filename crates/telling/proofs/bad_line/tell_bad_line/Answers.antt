@@ -3,5 +3,5 @@ use native.Mathlib.Omega.{arith}
 use Rattle.lines.proofs.Theorems.Read.{offset_told}
 use Rattle.telling.proofs.bad_line.tell_bad_line.Goals as goal
 
-pub overflow_add-offset : goal.overflow_add-offset
-overflow_add-offset g c = let few = offset_told _ _ c.read_line-read.ensures in omega arith
+pub overflow_add-column : goal.overflow_add-column
+overflow_add-column g c = let few = offset_told _ _ c.read_line-read.ensures in omega arith
