@@ -41,11 +41,10 @@ pub fn fit(frequency: Frequency) -> Frequency
 }
 
 // The time of 250 kHz at this frequency, rounded up.
-#[tactic(auto, using(crate::proofs::Laws::Oscillator::fitted_within), unfolding(crate::specs::Oscillator::time_at))]
+#[tactic(auto, using(crate::proofs::Laws::Oscillator::fitted_within, crate::proofs::Laws::Oscillator::ceiled_time))]
 pub fn time_at(time: u16, frequency: Frequency) -> u32
     ensures { result ≡ time_at time frequency }
 {
-    let khz = fit(frequency).khz as u32;
-    let older = Frequency::OLDER.khz as u32;
-    (time as u32 * older + (khz - 1)) / khz
+    let reached = u32::from(time) * u32::from(Frequency::OLDER.khz);
+    reached.div_ceil(u32::from(fit(frequency).khz))
 }

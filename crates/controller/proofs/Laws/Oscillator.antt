@@ -4,11 +4,13 @@
 use mathlib.Core.Bool.{true}
 use mathlib.Core.Path.{◌≡◌}
 use Prim.Native.Nat.{ℕ, ◌+◌, ◌-◌, ◌*◌, ◌≤◌, ◌<◌}
-use native.Mathlib.Nat.{div-lt_iff_lt-mul, lt-div-mul-add, mul-le-mul_left, mul-le-mul_right, le_trans, suc-mul}
+use native.Mathlib.Nat.{div-lt_iff_lt-mul, lt-div-mul-add, lt_of_mul-lt-mul_right, mul-le-mul_left, mul-le-mul_right, le_trans, suc-mul}
 use native.Mathlib.Numerals.{add-one}
 use native.Mathlib.Omega.{arith}
 use lib.Dec.{leb}
 use borrow.Author.Tests.{leb-true, le-leb}
+use Rattle.std.specs.Int.{div_ceil}
+use Rattle.std.proofs.lemmas.Grind.{div_ceil_times}
 use Rattle.controller.proofs.Laws.Choice.{cond-elim, and_left, and_right}
 use Rattle.controller.proofs.Laws.Rows.{range_fails}
 use Rattle.controller.proofs.Laws.Tests.{fails_false}
@@ -55,6 +57,20 @@ rounded_least number by other some reaches =
     let more : (other + 1) * by ≡ other * by + by = rw add-one (suc-mul other by) in
     let under : rounded_up number by < other + 1 = (div-lt_iff_lt-mul {k = by} {x = number + (by - 1)} {y = other + 1} some).1 (omega arith) in
     omega arith
+
+-- the library's quotient that is rounded up is that number
+ceiled : (number by : ℕ) → 0 < by → div_ceil number by ≡ rounded_up number by
+ceiled number by some =
+    let least : rounded_up number by ≤ div_ceil number by = rounded_least number by (div_ceil number by) some (div_ceil_times number by some).0 in
+    let more : (rounded_up number by + 1) * by ≡ rounded_up number by * by + by = rw add-one (suc-mul (rounded_up number by) by) in
+    let under : div_ceil number by < rounded_up number by + 1 =
+    lt_of_mul-lt-mul_right by (omega (arith, (div_ceil_times number by some).1, rounded_reaches number by some)) in
+    omega arith
+
+-- a time is what the library's quotient gives
+pub ceiled_time : (time : ℕ) (frequency : Frequency) → div_ceil (time * 250) (fitted frequency).khz ≡ time_at time frequency
+unfolding time_at
+ceiled_time time frequency = ceiled (time * 250) (fitted frequency).khz (omega (arith, (fitted_within frequency).low))
 
 module _ (time : ℕ) (frequency : Frequency) where
   abbrev khz : ℕ
