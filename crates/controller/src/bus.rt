@@ -6,11 +6,11 @@ ghost use Rattle.controller.specs.Promises.{IsBadPromise, IsWholePromise, ResetP
 ghost use Rattle.controller.specs.Record.{Ready};
 
 use crate::answers::Answer;
-use crate::cells::{CELLS, Memory, on_cell};
-use crate::decision::{Decision, Effect, Outcome, perform, refuse, tell};
+use crate::cells::{CELLS, Memory};
+use crate::decision::{Decision, Effect, Outcome, perform};
 use crate::halves::accept;
 use crate::kind::{Kind, kind_of};
-use crate::record::{Half, Record, after_reset, after_wait, is_sound};
+use crate::record::{Half, Record, after_reset, is_sound};
 
 // Whether a lent memory, or the marks or values of a wish, are 144 bytes.
 #[tactic(auto, unfolding(crate::specs::Bus::whole))]
@@ -43,9 +43,9 @@ fn decide_later(memory: &Memory, kind: Kind, byte: u8, rec: Record, later: Recor
     ensures { result ≡ ordered memory.now (kind_number kind) byte rec later }
 {
     if must_wait(kind, later) {
-        refuse(Answer::Busy, later)
-    } else if !on_cell(rec.counter) {
-        refuse(Answer::CounterOff, rec)
+        Decision::refused(Answer::Busy, later)
+    } else if !rec.counter.is_on_cell() {
+        Decision::refused(Answer::CounterOff, rec)
     } else {
         accept(memory, kind, byte, later)
     }
@@ -57,15 +57,15 @@ fn decide(rec: Record, memory: &[u8], kind: u8, byte: u8, wait: u32) -> Decision
     ensures { result ≡ decided rec memory.now kind byte wait }
 {
     if !is_sound(rec) {
-        return refuse(Answer::Unsound, rec);
+        return Decision::refused(Answer::Unsound, rec);
     }
     let Ok(memory) = <&Memory>::try_from(memory) else {
-        return refuse(Answer::NotWhole, rec);
+        return Decision::refused(Answer::NotWhole, rec);
     };
     let Some(kind) = kind_of(kind, byte) else {
-        return refuse(Answer::BadTransfer, rec);
+        return Decision::refused(Answer::BadTransfer, rec);
     };
-    decide_later(memory, kind, byte, rec, after_wait(wait, rec))
+    decide_later(memory, kind, byte, rec, rec.waited(wait))
 }
 
 // What reset comes to.
@@ -81,7 +81,7 @@ fn decide_reset(rec: Record, memory: &[u8]) -> Decision
             effect: Effect::Blank,
         }
     } else {
-        refuse(Answer::NotWhole, rec)
+        Decision::refused(Answer::NotWhole, rec)
     }
 }
 
@@ -93,7 +93,7 @@ pub fn transfer(rec: Record, memory: &mut [u8], kind: u8, byte: u8, wait: u32) -
 {
     let decision = decide(rec, memory, kind, byte, wait);
     perform(decision.effect, memory);
-    tell(decision)
+    decision.into()
 }
 
 // Power on. Any record will do, and an unsound one becomes sound; of what it holds only a frequency in range is kept.
@@ -103,5 +103,5 @@ pub fn reset(rec: Record, memory: &mut [u8]) -> Outcome
 {
     let decision = decide_reset(rec, memory);
     perform(decision.effect, memory);
-    tell(decision)
+    decision.into()
 }

@@ -35,14 +35,52 @@ pub fn cell_of(counter: Counter) -> u8
     }
 }
 
-// Where the counter's cell stands among the 144.
-#[tactic(auto, unfolding(crate::specs::Cells::place_of))]
-pub fn place(counter: Counter) -> usize
-    ensures { result ≡ place_of counter }
-{
-    match counter {
-        Counter::Display(cell) => cell as usize,
-        Counter::Pattern(cell) => 80 + cell as usize,
+// What the bus asks of a counter.
+impl Counter {
+    // Where the counter's cell stands among the 144.
+    #[tactic(auto, unfolding(crate::specs::Cells::place_of))]
+    pub(crate) fn place(self) -> usize
+        ensures { result ≡ place_of self }
+    {
+        match self {
+            Counter::Display(cell) => cell as usize,
+            Counter::Pattern(cell) => 80 + cell as usize,
+        }
+    }
+
+    // Whether it is a display cell 0 to 79 or a pattern cell 0 to 63.
+    #[tactic(auto, unfolding(crate::specs::Cells::on_cell))]
+    pub(crate) fn is_on_cell(self) -> bool
+        ensures { result ≡ on_cell self }
+    {
+        match self {
+            Counter::Display(cell) => cell < 80,
+            Counter::Pattern(cell) => cell < 64,
+        }
+    }
+
+    // The counter one cell up or down, within its memory.
+    #[tactic(auto, unfolding(crate::specs::Cells::stepped, crate::specs::Cells::on_cell))]
+    pub(crate) fn stepped(self, up: bool) -> Counter
+        requires { on_cell self ≡ true }
+        ensures { result ≡ stepped up self }
+    {
+        match self {
+            Counter::Display(cell) => Counter::Display(wrap(80, up, cell)),
+            Counter::Pattern(cell) => Counter::Pattern(wrap(64, up, cell)),
+        }
+    }
+
+    // The counter's address, as a status read shows it.
+    #[tactic(auto, unfolding(crate::specs::Cells::address_of, crate::specs::Cells::on_cell))]
+    pub(crate) fn address(self, n: bool) -> u8
+        requires { on_cell self ≡ true }
+        ensures { result ≡ address_of n self }
+    {
+        match self {
+            Counter::Display(cell) => add_of_cell(n, cell).0,
+            Counter::Pattern(cell) => acg_of_cell(cell).0,
+        }
     }
 }
 
@@ -52,17 +90,7 @@ pub fn load(memory: &Memory, counter: Counter) -> u8
     requires { on_cell counter ≡ true }
     ensures { result ≡ byte_under memory.now counter }
 {
-    memory[place(counter)]
-}
-
-#[tactic(auto, unfolding(crate::specs::Cells::on_cell))]
-pub fn on_cell(counter: Counter) -> bool
-    ensures { result ≡ on_cell counter }
-{
-    match counter {
-        Counter::Display(cell) => cell < 80,
-        Counter::Pattern(cell) => cell < 64,
-    }
+    memory[counter.place()]
 }
 
 // One up or one down in a ring of `size` cells.
@@ -75,18 +103,6 @@ pub fn wrap(size: u8, up: bool, cell: u8) -> u8
         (cell + 1) % size
     } else {
         (cell + size - 1) % size
-    }
-}
-
-// The counter one cell up or down, within its memory.
-#[tactic(auto, unfolding(crate::specs::Cells::stepped, crate::specs::Cells::on_cell))]
-pub fn step(up: bool, counter: Counter) -> Counter
-    requires { on_cell counter ≡ true }
-    ensures { result ≡ stepped up counter }
-{
-    match counter {
-        Counter::Display(cell) => Counter::Display(wrap(80, up, cell)),
-        Counter::Pattern(cell) => Counter::Pattern(wrap(64, up, cell)),
     }
 }
 
@@ -145,17 +161,5 @@ pub fn address_set(n: bool, counter: Counter) -> u8
     match counter {
         Counter::Display(cell) => 0x80 + add_of_cell(n, cell % 80).0,
         Counter::Pattern(cell) => 0x40 + acg_of_cell(cell % 64).0,
-    }
-}
-
-// The counter's address, as a status read shows it.
-#[tactic(auto, unfolding(crate::specs::Cells::address_of, crate::specs::Cells::on_cell))]
-pub fn address(n: bool, counter: Counter) -> u8
-    requires { on_cell counter ≡ true }
-    ensures { result ≡ address_of n counter }
-{
-    match counter {
-        Counter::Display(cell) => add_of_cell(n, cell).0,
-        Counter::Pattern(cell) => acg_of_cell(cell).0,
     }
 }

@@ -30,36 +30,42 @@ pub struct Outcome {
     pub rec: Record,
 }
 
-pub fn refuse(answer: Answer, rec: Record) -> Decision
-    ensures { result ≡ refused answer rec }
-{
-    Decision {
-        answer,
-        byte: 0,
-        rec,
-        effect: Effect::Keep,
+impl Decision {
+    // A refusal: no byte, and the memory as it was.
+    pub fn refused(answer: Answer, rec: Record) -> Decision
+        ensures { result ≡ refused answer rec }
+    {
+        Decision {
+            answer,
+            byte: 0,
+            rec,
+            effect: Effect::Keep,
+        }
+    }
+
+    // Done, and busy for this time.
+    pub fn done(time: u32, effect: Effect, rec: Record) -> Decision
+        ensures { result ≡ done time effect rec }
+    {
+        Decision {
+            answer: Answer::Done,
+            byte: 0,
+            rec: Record { busy: time, ..rec },
+            effect,
+        }
     }
 }
 
-// Done, and busy for this time.
-pub fn finish(time: u32, effect: Effect, rec: Record) -> Decision
-    ensures { result ≡ done time effect rec }
-{
-    Decision {
-        answer: Answer::Done,
-        byte: 0,
-        rec: Record { busy: time, ..rec },
-        effect,
-    }
-}
+// A decision as its caller hears of it.
+impl From<Decision> for Outcome {
+    ghost from_gives = { λ decision outcome. outcome ≡ outcome_of decision };
 
-pub fn tell(decision: Decision) -> Outcome
-    ensures { result ≡ outcome_of decision }
-{
-    Outcome {
-        answer: decision.answer,
-        byte: decision.byte,
-        rec: decision.rec,
+    fn from(decision: Decision) -> Outcome {
+        Outcome {
+            answer: decision.answer,
+            byte: decision.byte,
+            rec: decision.rec,
+        }
     }
 }
 

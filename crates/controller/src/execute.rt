@@ -2,13 +2,13 @@
 ghost use Rattle.std.specs.Prelude.{true, ◌≡◌, ◌<◌};
 ghost use Rattle.controller.specs.Cells.{Within, on_cell};
 ghost use Rattle.controller.specs.Execute.{addressed, carried, changed, cleared, completed, cursor_at, executed};
-ghost use Rattle.controller.specs.Execute.{homed, loaded, moved_on, read_out, shifted, status_of, written};
+ghost use Rattle.controller.specs.Execute.{homed, loaded, moved_on, placed, read_out, shifted, status_of, written};
 ghost use Rattle.controller.specs.Promises.{LongTimePromise, ShortTimePromise};
 ghost use Rattle.controller.specs.Record.{Ready};
 
 use crate::answers::Answer;
-use crate::cells::{Counter, Memory, address, cell_of_acg, cell_of_add, load, place, step, wrap};
-use crate::decision::{Decision, Effect, finish, refuse};
+use crate::cells::{Counter, Memory, cell_of_acg, cell_of_add, load, wrap};
+use crate::decision::{Decision, Effect};
 use crate::instruction::{Instruction, decode};
 use crate::oscillator::{Frequency, time_at};
 use crate::record::{Entry, Record};
@@ -38,77 +38,100 @@ pub fn long_time(frequency: Frequency) -> u32
     time_at(1_640, frequency)
 }
 
-// The counter one cell on, as I/D says.
-fn move_on(rec: Record) -> Record
-    requires { on_cell rec.counter ≡ true }
-    ensures { result ≡ moved_on rec }
-{
-    Record {
-        counter: step(rec.entry.id, rec.counter),
-        ..rec
+// The steps that instructions and data transfers are made of.
+impl Record {
+    // The counter on this cell.
+    fn placed(self, counter: Counter) -> Record
+        ensures { result ≡ placed counter self }
+    {
+        Record { counter, ..self }
     }
-}
 
-// The register loaded from the counter's cell, fresh.
-fn load_register(memory: &Memory, rec: Record) -> Record
-    requires { on_cell rec.counter ≡ true }
-    ensures { result ≡ loaded memory.now rec }
-{
-    Record {
-        reg: load(memory, rec.counter),
-        fresh: true,
-        ..rec
+    // The counter one cell on, as I/D says.
+    fn moved_on(self) -> Record
+        requires { on_cell self.counter ≡ true }
+        ensures { result ≡ moved_on self }
+    {
+        Record {
+            counter: self.counter.stepped(self.entry.id),
+            ..self
+        }
     }
-}
 
-// Counter cell 0, shift 0, and the register stale.
-fn home(rec: Record) -> Record
-    ensures { result ≡ homed rec }
-{
-    Record {
-        counter: Counter::Display(0),
-        shift: 0,
-        fresh: false,
-        ..rec
+    // The register loaded from the counter's cell, fresh.
+    fn loaded(self, memory: &Memory) -> Record
+        requires { on_cell self.counter ≡ true }
+        ensures { result ≡ loaded memory.now self }
+    {
+        Record {
+            reg: load(memory, self.counter),
+            fresh: true,
+            ..self
+        }
     }
-}
 
-// As Home, and the counter runs rightward again.
-fn clear(rec: Record) -> Record
-    ensures { result ≡ cleared rec }
-{
-    Record {
-        entry: Entry {
-            id: true,
-            ..rec.entry
-        },
-        ..home(rec)
-    }
-}
-
-// In display memory a cursor move loads the register; in pattern memory it leaves it stale.
-#[tactic(auto, unfolding(crate::specs::Execute::cursor_at))]
-fn cursor_to(memory: &Memory, counter: Counter, rec: Record) -> Record
-    requires { on_cell counter ≡ true }
-    ensures { result ≡ cursor_at memory.now counter rec }
-{
-    let moved = Record { counter, ..rec };
-    match counter {
-        Counter::Display(_) => load_register(memory, moved),
-        Counter::Pattern(_) => Record {
+    // Counter cell 0, shift 0, and the register stale.
+    fn homed(self) -> Record
+        ensures { result ≡ homed self }
+    {
+        Record {
+            counter: Counter::Display(0),
+            shift: 0,
             fresh: false,
-            ..moved
-        },
+            ..self
+        }
     }
-}
 
-fn shift(up: bool, rec: Record) -> Record
-    requires { rec.shift < 80 }
-    ensures { result ≡ shifted up rec }
-{
-    Record {
-        shift: wrap(80, up, rec.shift),
-        ..rec
+    // As Home, and the counter runs rightward again.
+    fn cleared(self) -> Record
+        ensures { result ≡ cleared self }
+    {
+        Record {
+            entry: Entry {
+                id: true,
+                ..self.entry
+            },
+            ..self.homed()
+        }
+    }
+
+    // In display memory a cursor move loads the register; in pattern memory it leaves it stale.
+    #[tactic(auto, unfolding(crate::specs::Execute::cursor_at))]
+    fn cursor_at(self, memory: &Memory, counter: Counter) -> Record
+        requires { on_cell counter ≡ true }
+        ensures { result ≡ cursor_at memory.now counter self }
+    {
+        match counter {
+            Counter::Display(_) => self.placed(counter).loaded(memory),
+            Counter::Pattern(_) => Record {
+                counter,
+                fresh: false,
+                ..self
+            },
+        }
+    }
+
+    // The display shifted by one cell.
+    fn shifted(self, up: bool) -> Record
+        requires { self.shift < 80 }
+        ensures { result ≡ shifted up self }
+    {
+        Record {
+            shift: wrap(80, up, self.shift),
+            ..self
+        }
+    }
+
+    // The display follows a data write to this cell: in display memory, with S=1.
+    #[tactic(auto, unfolding(crate::specs::Execute::carried))]
+    fn carried(self, counter: Counter) -> Record
+        requires { self.shift < 80 }
+        ensures { result ≡ carried counter self }
+    {
+        match counter {
+            Counter::Display(_) if self.entry.s => self.shifted(self.entry.id),
+            _ => self,
+        }
     }
 }
 
@@ -116,7 +139,7 @@ fn shift(up: bool, rec: Record) -> Record
 fn change(rec: Record) -> Decision
     ensures { result ≡ changed rec }
 {
-    finish(short_time(rec.frequency), Effect::Keep, rec)
+    Decision::done(short_time(rec.frequency), Effect::Keep, rec)
 }
 
 // A cell that an address names: the counter goes there, and the register is loaded. Refusal 6 where it names none.
@@ -126,14 +149,8 @@ fn go_to(memory: &Memory, named: Option<u8>, rec: Record) -> Decision
     ensures { result ≡ addressed memory.now named rec }
 {
     match named {
-        Some(cell) => change(load_register(
-            memory,
-            Record {
-                counter: Counter::Display(cell),
-                ..rec
-            },
-        )),
-        None => refuse(Answer::NoCell, rec),
+        Some(cell) => change(rec.placed(Counter::Display(cell)).loaded(memory)),
+        None => Decision::refused(Answer::NoCell, rec),
     }
 }
 
@@ -144,37 +161,26 @@ fn execute(memory: &Memory, instruction: Instruction, rec: Record) -> Decision
 {
     match instruction {
         Instruction::Nothing => change(rec),
-        Instruction::Clear => finish(long_time(rec.frequency), Effect::Blank, clear(rec)),
-        Instruction::Home => finish(long_time(rec.frequency), Effect::Keep, home(rec)),
+        Instruction::Clear => Decision::done(
+            long_time(rec.frequency),
+            Effect::Blank,
+            rec.cleared(),
+        ),
+        Instruction::Home => Decision::done(long_time(rec.frequency), Effect::Keep, rec.homed()),
         Instruction::SetEntry(entry) => change(Record { entry, ..rec }),
         Instruction::SetControl(control) => change(Record { control, ..rec }),
-        Instruction::MoveCursor(right) => change(cursor_to(memory, step(right, rec.counter), rec)),
-        Instruction::ShiftDisplay(right) => change(shift(!right, rec)),
+        Instruction::MoveCursor(right) => change(rec.cursor_at(memory, rec.counter.stepped(right))),
+        Instruction::ShiftDisplay(right) => change(rec.shifted(!right)),
         Instruction::SetFunction(wide, function) => change(Record {
             wide,
             function,
             ..rec
         }),
-        Instruction::PatternAddress(acg) => change(load_register(
-            memory,
-            Record {
-                counter: Counter::Pattern(cell_of_acg(acg)),
-                ..rec
-            },
-        )),
+        Instruction::PatternAddress(acg) => change(
+            rec.placed(Counter::Pattern(cell_of_acg(acg)))
+                .loaded(memory),
+        ),
         Instruction::DisplayAddress(add) => go_to(memory, cell_of_add(rec.function.n, add), rec),
-    }
-}
-
-// The display follows a data write: in display memory, with S=1.
-#[tactic(auto, unfolding(crate::specs::Execute::carried))]
-fn carry(counter: Counter, rec: Record) -> Record
-    requires { rec.shift < 80 }
-    ensures { result ≡ carried counter rec }
-{
-    match counter {
-        Counter::Display(_) if rec.entry.s => shift(rec.entry.id, rec),
-        _ => rec,
     }
 }
 
@@ -184,13 +190,13 @@ fn write(byte: u8, rec: Record) -> Decision
     requires { (on_cell rec.counter ≡ true) × (rec.shift < 80) }
     ensures { result ≡ written byte rec }
 {
-    finish(
+    Decision::done(
         short_time(rec.frequency),
-        Effect::Store(place(rec.counter), byte),
+        Effect::Store(rec.counter.place(), byte),
         Record {
             reg: byte,
             fresh: false,
-            ..carry(rec.counter, move_on(rec))
+            ..rec.moved_on().carried(rec.counter)
         },
     )
 }
@@ -210,7 +216,7 @@ fn read(memory: &Memory, byte: u8, rec: Record) -> Decision
         byte,
         rec: Record {
             busy: short_time(rec.frequency),
-            ..load_register(memory, move_on(rec))
+            ..rec.moved_on().loaded(memory)
         },
         effect: Effect::Keep,
     }
@@ -222,7 +228,7 @@ pub fn status(rec: Record) -> u8
     requires { on_cell rec.counter ≡ true }
     ensures { result ≡ status_of rec }
 {
-    let at = address(rec.function.n, rec.counter);
+    let at = rec.counter.address(rec.function.n);
     if 0 < rec.busy { 0x80 + at } else { at }
 }
 

@@ -3,7 +3,7 @@ ghost use Rattle.std.specs.Prelude.{◌≡◌};
 ghost use Rattle.controller.specs.Promises.{AfterResetPromise, IsSoundPromise};
 ghost use Rattle.controller.specs.Record.{half_sound, waited};
 
-use crate::cells::{Counter, on_cell};
+use crate::cells::Counter;
 use crate::oscillator::{Frequency, fit, is_in_range};
 
 // What Function Set sets, beside the width: N, two lines, and F, tall letters.
@@ -76,7 +76,7 @@ pub fn is_sound(rec: Record) -> bool
     ensures { IsSoundPromise rec result }
 {
     rec.shift < 80
-        && on_cell(rec.counter)
+        && rec.counter.is_on_cell()
         && rec.busy <= RESET_TIME
         && is_in_range(rec.frequency)
         && half_is_sound(rec.wide, rec.busy, rec.half)
@@ -106,13 +106,15 @@ pub fn after_reset(frequency: Frequency) -> Record
     }
 }
 
-// The wait comes off busy, not below 0.
-#[tactic(auto, using(crate::proofs::Laws::Record::less_waited))]
-pub fn after_wait(wait: u32, rec: Record) -> Record
-    ensures { result ≡ waited wait rec }
-{
-    Record {
-        busy: rec.busy.saturating_sub(wait),
-        ..rec
+impl Record {
+    // The wait comes off busy, not below 0.
+    #[tactic(auto, using(crate::proofs::Laws::Record::less_waited))]
+    pub(crate) fn waited(self, wait: u32) -> Record
+        ensures { result ≡ waited wait self }
+    {
+        Record {
+            busy: self.busy.saturating_sub(wait),
+            ..self
+        }
     }
 }

@@ -6,4 +6,4 @@ use Rattle.controller.proofs.bus.decide.Goals as goal
 
 pub decide_later-requires : goal.decide_later-requires
 decide_later-requires c =
-    rw c.after_wait.ensures (ready _ (waited_sound _ _ (sym c.is_sound.ensures ∙ c.if-not-is_sound.false)))
+    rw c.waited.ensures (ready _ (waited_sound _ _ (sym c.is_sound.ensures ∙ c.if-not-is_sound.false)))
