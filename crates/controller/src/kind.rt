@@ -1,4 +1,4 @@
-// What a transfer is.
+// The kinds of transfers.
 ghost use Rattle.std.specs.Prelude.{MatchOption, true, false, ◌≡◌};
 ghost use Rattle.controller.specs.Bus.{bad_transfer};
 ghost use Rattle.controller.specs.Kind.{kind_number};

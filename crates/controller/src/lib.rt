@@ -22,6 +22,7 @@ pub use bus::{is_bad, is_whole, reset, transfer};
 pub use cells::{Acg, Add, Counter, address_set, cell_of, line_length};
 pub use decision::Outcome;
 pub use execute::{long_time, short_time};
+pub use kind::Kind;
 pub use loan::{Told, transfer_in};
 pub use oscillator::{Frequency, is_in_range};
 pub use record::{Control, Entry, Function, Half, Record, after_reset, is_sound};

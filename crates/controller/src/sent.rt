@@ -1,7 +1,8 @@
 // A transfer as it is sent, and its six bytes in a plan: kind, byte, wait little-endian.
 ghost use Rattle.controller.specs.Promises.{LittleEndianPromise, NumberFromPromise, SixBytesPromise};
 
-// Kind (0 instruction write, 1 data write, 2 status read, 3 data read), byte, and the wait since the transfer before it.
+// The number of its kind (`Kind`), its byte, and the wait since the transfer before it. `kind` stays a number, since a number above 3
+// can be sent too and is answered 3 (`TransferPromise`).
 #[derive(Clone, Copy, PartialEq, Eq)]
 pub struct Sent {
     pub kind: u8,
