@@ -1,6 +1,6 @@
 // The public calls. Each answers every input: the refusals in their order, then what the rules say.
-ghost use Rattle.std.specs.Prelude.{true, ◌≡◌};
-ghost use Rattle.controller.specs.Bus.{decided, must_wait, no_half, ordered, reset_decided};
+ghost use Rattle.std.specs.Prelude.{◌≡◌};
+ghost use Rattle.controller.specs.Bus.{decided, must_wait, ordered, reset_decided};
 ghost use Rattle.controller.specs.Kind.{kind_number};
 ghost use Rattle.controller.specs.Promises.{IsBadPromise, IsWholePromise, ResetPromise, TransferPromise};
 ghost use Rattle.controller.specs.Record.{Ready};
