@@ -203,7 +203,7 @@ FourBits (StatusRead byte) = Unit {0}
 FourBits (DataRead byte) = Unit {0}
 
 -- What the rules of one transfer lean on: of a sound record the counter, the shift and the half. The memory, its length in its
--- type, stays beside the record: each step makes a new record and none a new memory, so that a struct of both would be no plainer.
+-- type, stays beside the record: each step makes a new record and none a new memory, so a struct of both would be no plainer.
 pub record Ready (rec : Record) : Type 0 where
   pub counter : on_cell rec.counter ≡ true
   pub shift : rec.shift < 80

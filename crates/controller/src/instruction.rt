@@ -76,6 +76,7 @@ fn shift_of(byte: u8) -> Instruction
 }
 
 // The instruction by its leading zero bits: a case a row, in the table's order, each under its bits as the table has them.
+#[tactic(auto, unfolding(crate::specs::Instruction::row, crate::specs::Instruction::decoded))]
 pub fn decode(byte: u8) -> Instruction
     ensures { result ≡ decoded byte }
 {
