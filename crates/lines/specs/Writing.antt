@@ -34,6 +34,11 @@ abbrev pub answer_in : Result ℕ Answer → Answer
 answer_in (Ok length) = Done
 answer_in (Err answer) = answer
 
+-- The length that it tells: 0 where it is a refusal.
+abbrev pub length_in : Result ℕ Answer → ℕ
+length_in (Ok length) = length
+length_in (Err answer) = 0
+
 -- What a call that writes text promises: what is returned, its number in the table, and every byte of the buffer.
 pub record Writes (w : Writing) (before : List ℕ) (returned : Result ℕ Answer) (after : List ℕ) : Type 0 where
   pub told : returned ≡ written_of w

@@ -1,20 +1,22 @@
 -- What a caller may take from what he is told: a line or its fault, a text's length or its refusal.
 -- Assumes nothing.
 use mathlib.Core.Bool.{true, false, false≢true}
-use mathlib.Core.Path.{◌≡◌, sym}
+use mathlib.Core.Path.{◌≡◌, sym, ap, ◌∙◌}
 use Prim.Native.Nat.{ℕ}
 use lib.ListN.{length}
 use native.Mathlib.Omega.{arith}
 use Rattle.std.specs.Prelude.{Result, Ok, Err, IsOk}
 use Rattle.controller.specs.declared.answers.Answer.{Answer}
 use Rattle.controller.specs.declared.answers.Answer.TheVariants.{Done}
-use Rattle.controller.specs.Answers.{is_done}
+use Rattle.controller.specs.Answers.{is_done, number_of}
 use Rattle.controller.proofs.Laws.Answers.{done_is}
 use Rattle.lines.specs.declared.reader.BadLine.{BadLine}
 use Rattle.lines.specs.declared.reader.Line.{Line}
 use Rattle.lines.specs.Reading.{Reading, sent_of, told_of}
-use Rattle.lines.specs.Writing.{Writing, answer_in, written_of}
+use Rattle.lines.specs.Writing.{Writing, answer_in, length_in, written_of}
+use borrow.Author.Tests.{eq-eqb}
 use Rattle.lines.proofs.Laws.Digits.{either}
+use Rattle.lines.proofs.Laws.Nothing.{WritesNothing}
 
 -- a line was read with done, and it has the reading's transfer and length
 pub told_line : {line : Line} (r : Reading) → Ok line ≡ told_of r
@@ -35,6 +37,12 @@ told_fault {bad} r told =
 -- the answer that is told is that of the writing
 pub answer_told : (w : Writing) → answer_in (written_of w) ≡ w.answer
 answer_told w = either (is_done w.answer) (λ done. simp done (sym (done_is w.answer done))) (λ refused. simp refused)
+
+-- and so is the length, where a refusal writes nothing
+pub length_told : (w : Writing) → WritesNothing w → length_in (written_of w) ≡ length w.text
+length_told w nothing =
+    either (is_done w.answer) (λ done. simp done)
+    (λ refused. simp refused (sym (ap length (nothing (λ zero. false≢true (sym refused ∙ eq-eqb (number_of w.answer) 0 zero))))))
 
 -- a length is that of the text, and its answer done
 pub told_length : {n : ℕ} (w : Writing) → Ok n ≡ written_of w → (w.answer ≡ Done) × (length w.text ≡ n)

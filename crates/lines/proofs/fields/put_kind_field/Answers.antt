@@ -2,13 +2,8 @@
 -- Assumes nothing.
 use Rattle.lines.specs.Line.{kind_field}
 use mathlib.Core.Path.{refl}
-use native.Mathlib.Omega.{arith}
 use native.Mathlib.Numerals.{add-one}
-use lib.ListN.{length-set}
 use Rattle.lines.proofs.fields.put_kind_field.Goals as goal
-
-pub bounds-out-at-2 : goal.bounds-out-at-2
-bounds-out-at-2 c = simp length-set (omega arith)
 
 pub returns : goal.returns
 unfolding kind_field
