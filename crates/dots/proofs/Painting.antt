@@ -1,16 +1,16 @@
 -- Laws of `painted`: one more byte, a part written by itself, and what each byte holds.
 -- Assumes nothing.
 use mathlib.Core.Bool.{Bool, true, false}
-use mathlib.Core.List.{List}
+use mathlib.Core.List.{List, ◌++◌}
 use mathlib.Core.Path.{◌≡◌, refl, sym, ap, ◌∙◌}
 use Prim.Native.Nat.{ℕ, zero, suc, ◌+◌, ◌-◌, ◌≤◌, ◌<◌}
-use native.Mathlib.Nat.{add-zero, add-suc}
+use native.Mathlib.Nat.{add-zero, add-suc, zero-add}
 use native.Mathlib.Numerals.{add-one}
 use native.Mathlib.Omega.{arith}
 use borrow.Author.Tests.{eqb-true, eqb-false, ltb-true, ltb-false}
 use borrow.Rule.Slice.PartMut.{put_mid, same_len_mid}
 use lib.Dec.{eqb, ltb}
-use lib.ListN.{length, get_or, get_or-append, set, take, length-set, length-take, length-drop}
+use lib.ListN.{length, get_or, get_or-append, set, drop, take, length-set, length-take, length-drop}
 use lib.Seq.{ext_get_or, get_or-drop, get_or-take, get_or-set_same, get_or-set_other}
 use Rattle.std.proofs.lemmas.List.{get_or-append_right}
 use Rattle.std.proofs.lemmas.Slice.{drop-put_mid}
@@ -113,3 +113,11 @@ module _ (f : ℕ → ℕ) (start count : ℕ) (out part : List ℕ) (room : sta
       pick i h false false e d =
           let past = ltb-false i (start + count) d in
           past_part i past ∙ sym (painted_past f 0 out (start + count) i (omega arith))
+
+-- The first bytes, written by themselves.
+pub painted_front : (f : ℕ → ℕ) (count : ℕ) (out : List ℕ) → count ≤ length out → painted f 0 count (take count out) ++ drop count out ≡ painted f 0 count out
+unfolding painted
+painted_front f count out room =
+    let long : length (take count out) ≡ count = rw length-take (omega arith) in
+    rw zero-add at (painted_part f 0 count out (painted f 0 count (take count out)) (omega arith) (painted_length f 0 (take count out) count ∙ long)
+    (λ i h. painted_at f 0 (take count out) count i (omega arith) (omega arith) (omega arith) ∙ ap f (sym (zero-add i))))

@@ -7,11 +7,10 @@ use Prim.Native.Char.{code}
 use Prim.Native.Nat.{ℕ, ◌+◌, ◌-◌, ◌*◌, ◌/◌, ◌%◌, ◌<◌}
 use native.Mathlib.Omega.{arith}
 use borrow.Author.Tests.{eq-eqb, eqb-true, le-ltb, lt-ltb, ne_eqb}
+use Rattle.std.specs.Prelude.{Option, Some, None}
 use Rattle.controller.specs.declared.cells.Counter.{Counter}
 use Rattle.controller.specs.declared.cells.Counter.TheVariants.{Display, Pattern}
 use Rattle.controller.specs.declared.«record».Record.{Record}
-use Rattle.dots.specs.declared.geometry.Shown.{Shown}
-use Rattle.dots.specs.declared.geometry.Shown.TheVariants.{Cell, Undriven}
 use Rattle.dots.specs.declared.panel.Profile.{Profile}
 use Rattle.dots.specs.Geometry.{shown_at}
 use Rattle.dots.proofs.Places.{column_of_place, row_of_place}
@@ -70,15 +69,15 @@ caret_tells true is = refl
 caret_tells false is = let differ : ◌≡◌ {A = ℕ} 32 94 = is in absurd (omega arith)
 
 -- the test holds where the counter is on the cell that is shown
-record On (counter : Counter) (shown : Shown) : Type 0 where
+record On (counter : Counter) (shown : Option ℕ) : Type 0 where
   cell : ℕ
   counter_is : counter ≡ Display cell
-  shown_is : shown ≡ Cell cell
+  shown_is : shown ≡ Some cell
 
-on_shown : (counter : Counter) (shown : Shown) → counter_shown counter shown ≡ true → On counter shown
-on_shown (Display at) (Cell cell) is = record { cell = cell; counter_is = ap Display (eqb-true at cell is); shown_is = refl }
-on_shown (Pattern at) (Cell cell) is = absurd (false≢true is)
-on_shown counter Undriven is = absurd (false≢true is)
+on_shown : (counter : Counter) (shown : Option ℕ) → counter_shown counter shown ≡ true → On counter shown
+on_shown (Display at) (Some cell) is = record { cell = cell; counter_is = ap Display (eqb-true at cell is); shown_is = refl }
+on_shown (Pattern at) (Some cell) is = absurd (false≢true is)
+on_shown counter None is = absurd (false≢true is)
 
 pub caret_in_place : CaretInPlace
 caret_in_place dots mem rec grid line column l k = (there, here)

@@ -19,14 +19,13 @@ use Rattle.dots.proofs.Answers.{passed}
 use Rattle.dots.proofs.Places.{column_of_place, row_of_place}
 use Rattle.dots.proofs.Profiles.{every_cell_shown, on_glass_lem}
 use Rattle.dots.proofs.Theorems.{answers_given, each_byte}
-use Rattle.lines.specs.declared.writer.Written.{Written}
 use Rattle.drawing.specs.declared.grid.Grid.{Grid}
 use Rattle.drawing.specs.declared.drawing.Form.TheVariants.{Blocks, Dots, Letters, Bitmap, Cells}
 use Rattle.drawing.specs.Grid.{byte_of, is_between, is_lit, last_x, last_y}
 use Rattle.drawing.specs.Blocks.{blocks_length, blocks_width}
 use Rattle.drawing.specs.Letters.{letters_length, letters_width}
 use Rattle.drawing.specs.Listing.{is_spare}
-use Rattle.drawing.specs.Drawing.{answering, bitmap_length, drawn_length, frame_length, frame_width, grid_for}
+use Rattle.drawing.specs.Drawing.{Written, answering, bitmap_length, drawn_length, frame_length, frame_width, grid_for}
 use Rattle.drawing.specs.State.{address_shown}
 use Rattle.drawing.specs.Theorems.{AddressTold, DotsInPlace, DrawAnswers, DrawFits, DrawRefusals, NoneSpare, OneDrawing}
 

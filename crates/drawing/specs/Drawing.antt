@@ -1,15 +1,14 @@
 -- The forms of a drawing, byte by byte, and the call that draws, with its refusals in order.
 -- Assumes nothing.
-use Rattle.std.specs.Prelude.{Bool, cond, List, ◌≡◌, ℕ, ◌+◌, ◌-◌, ◌*◌, ◌/◌, ◌%◌, ltb, length, get_or, replicate}
+use Rattle.std.specs.Prelude.{Bool, cond, List, ◌≡◌, ℕ, ◌+◌, ◌-◌, ◌*◌, ◌/◌, ◌%◌, ltb, length, get_or, replicate, Result, Ok, Err}
 use Rattle.controller.specs.declared.answers.Answer.{Answer}
 use Rattle.controller.specs.declared.answers.Answer.TheVariants.{Done, OutputShort}
 use Rattle.controller.specs.declared.«record».Record.{Record}
-use Rattle.controller.specs.Answers.{number_of, is_refusal}
+use Rattle.controller.specs.Answers.{is_done, number_of, is_refusal}
 use Rattle.dots.specs.declared.panel.Profile.{Profile}
 use Rattle.dots.specs.Geometry.{height, picture_room}
 use Rattle.dots.specs.Panel.{size_of}
 use Rattle.dots.specs.Picture.{answer_for, output, output_left}
-use Rattle.lines.specs.declared.writer.Written.{Written}
 use Rattle.drawing.specs.declared.drawing.Form.{Form}
 use Rattle.drawing.specs.declared.drawing.Form.TheVariants.{Blocks, Dots, Letters, Bitmap, Cells}
 use Rattle.drawing.specs.declared.grid.Grid.{Grid}
@@ -106,11 +105,26 @@ drawn_length form rec profile = length_of form (grid_for rec profile)
 abbrev pub answering : Form → Record → List ℕ → Profile → ℕ → Answer
 answering form rec mem profile room = answer_for rec mem profile (drawn_length form rec profile) room
 
+-- What a drawing comes to: an answer, and a length.
+pub record Written : Type 0 where
+  pub answer : Answer
+  pub length : ℕ
+
+-- What the caller is told of it: the length, or the refusal.
+abbrev pub result_of : Written → Result ℕ Answer
+result_of w = cond (is_done w.answer) (Ok w.length) (Err w.answer)
+
+-- What a result tells: the answer 0 with this length, or the refusal with none.
+abbrev pub written_in : Result ℕ Answer → Written
+written_in (Ok long) = record { answer = Done; length = long }
+written_in (Err refusal) = record { answer = refusal; length = 0 }
+
 -- What is told: the answer, and the bytes of the drawing, 0 on a refusal.
 abbrev pub telling : Answer → ℕ → Written
 telling answer long = record { answer = answer; length = cond (is_refusal answer) 0 long }
 
--- What `draw` promises: what is told, its number in the table, and every byte of the output.
+-- What a drawing that comes to this tells: the answer and the length, the answer's number in the table, and every byte of the
+-- output.
 pub record Drawn (form : Form) (rec : Record) (mem : List ℕ) (profile : Profile) (lit : Bool) (before : List ℕ)
     (returned : Written) (after : List ℕ) : Type 0 where
   pub told : returned ≡ telling (answering form rec mem profile (length before)) (drawn_length form rec profile)
@@ -120,13 +134,19 @@ pub record Drawn (form : Form) (rec : Record) (mem : List ℕ) (profile : Profil
       ≡ output_left (answering form rec mem profile (length before))
       (drawn_byte form (dots_of rec mem profile lit) mem rec (grid_for rec profile)) (drawn_length form rec profile) before
 
+-- What `draw` promises: the result, and the drawing with the answer and the length that it tells.
+pub record DrawReturns (form : Form) (rec : Record) (mem : List ℕ) (profile : Profile) (lit : Bool) (before : List ℕ)
+    (returned : Result ℕ Answer) (after : List ℕ) : Type 0 where
+  pub told : returned ≡ result_of (telling (answering form rec mem profile (length before)) (drawn_length form rec profile))
+  pub drawn : Drawn form rec mem profile lit before (written_in returned) after
+
 -- Of a picture that was taken 11 is left to be given.
 abbrev pub room_answer : Form → Grid → ℕ → Answer
 room_answer form grid room = cond (ltb room (length_of form grid)) OutputShort Done
 
 -- What is promised of drawing a picture that was taken: what is told, and every byte of the output.
-pub record DrawnTaken (form : Form) (dots mem : List ℕ) (rec : Record) (grid : Grid) (before : List ℕ) (returned : Written)
-    (after : List ℕ) : Type 0 where
-  pub told : returned ≡ telling (room_answer form grid (length before)) (length_of form grid)
+pub record DrawnTaken (form : Form) (dots mem : List ℕ) (rec : Record) (grid : Grid) (before : List ℕ)
+    (returned : Result ℕ Answer) (after : List ℕ) : Type 0 where
+  pub told : returned ≡ result_of (telling (room_answer form grid (length before)) (length_of form grid))
   pub out :
       after ≡ output_left (room_answer form grid (length before)) (drawn_byte form dots mem rec grid) (length_of form grid) before

@@ -1,11 +1,9 @@
 -- The glass as plain text: a row of letters for each line of the glass, and under it a row that marks the counter's place.
 -- Assumes nothing.
-use Rattle.std.specs.Prelude.{Bool, false, cond, List, ℕ, ◌+◌, ◌-◌, ◌*◌, ◌/◌, ◌%◌, eqb, ltb, get_or}
+use Rattle.std.specs.Prelude.{Bool, false, cond, List, ℕ, ◌+◌, ◌-◌, ◌*◌, ◌/◌, ◌%◌, eqb, ltb, get_or, Option, Some, None}
 use Prim.Native.Char.{code}
 use Rattle.controller.specs.declared.cells.Counter.{Counter}
 use Rattle.controller.specs.declared.«record».Record.{Record}
-use Rattle.dots.specs.declared.geometry.Shown.{Shown}
-use Rattle.dots.specs.declared.geometry.Shown.TheVariants.{Cell, Undriven}
 use Rattle.dots.specs.declared.panel.Profile.{Profile}
 use Rattle.dots.specs.declared.panel.Size.{Size}
 use Rattle.dots.specs.Geometry.{shown_at}
@@ -23,9 +21,9 @@ letter_for char =
     (code " ")))
 
 -- What a position reads as: the letter of the cell that it shows, and a blank where its line is not driven.
-abbrev pub letter_shown : List ℕ → Shown → ℕ
-letter_shown mem (Cell cell) = letter_for (get_or mem cell 0)
-letter_shown mem Undriven = code " "
+abbrev pub letter_shown : List ℕ → Option ℕ → ℕ
+letter_shown mem (Some cell) = letter_for (get_or mem cell 0)
+letter_shown mem None = code " "
 
 -- The letter at a line and a column of the glass. D=0: a blank.
 unfoldable pub letter_at : List ℕ → Record → Profile → ℕ → ℕ → ℕ
@@ -33,9 +31,9 @@ letter_at mem rec profile line column =
     cond rec.control.d (letter_shown mem (shown_at rec.function.n rec.shift profile line column)) (code " ")
 
 -- The counter is on the cell that a position shows.
-abbrev pub counter_shown : Counter → Shown → Bool
-counter_shown counter (Cell cell) = is_on counter cell
-counter_shown counter Undriven = false
+abbrev pub counter_shown : Counter → Option ℕ → Bool
+counter_shown counter (Some cell) = is_on counter cell
+counter_shown counter None = false
 
 -- Under a line and a column of the glass: `^` where the counter is on the cell shown there, whatever D, C and B are.
 unfoldable pub caret_at : Record → Profile → ℕ → ℕ → ℕ

@@ -1,7 +1,7 @@
 -- What is proved of the drawings: each theorem is a type here, and its proof stands in proofs/Theorems.antt or, of the letters,
 -- in proofs/Positions.antt.
 -- Assumes nothing.
-use Rattle.std.specs.Prelude.{Bool, true, false, List, ◌↔◌, ◌≡◌, ℕ, ◌+◌, ◌*◌, ◌/◌, ◌≤◌, ◌<◌, length, get_or}
+use Rattle.std.specs.Prelude.{Bool, true, false, List, ◌↔◌, ◌≡◌, ℕ, ◌+◌, ◌*◌, ◌/◌, ◌≤◌, ◌<◌, length, get_or, Some}
 use Prim.Native.Char.{code}
 use Rattle.controller.specs.declared.answers.Answer.TheVariants.{Done}
 use Rattle.controller.specs.declared.cells.Counter.{Counter}
@@ -9,7 +9,6 @@ use Rattle.controller.specs.declared.cells.Counter.TheVariants.{Display}
 use Rattle.controller.specs.declared.«record».Record.{Record}
 use Rattle.controller.specs.Answers.{is_refusal, number_of, Row, Tells}
 use Rattle.controller.specs.Cells.{address_of, on_cell}
-use Rattle.dots.specs.declared.geometry.Shown.TheVariants.{Cell}
 use Rattle.dots.specs.declared.panel.Profile.{Profile}
 use Rattle.dots.specs.declared.panel.Profile.TheVariants.{FourRows}
 use Rattle.dots.specs.declared.panel.Size.{Size}
@@ -18,14 +17,13 @@ use Rattle.dots.specs.Geometry.{height, picture_room, shown_at}
 use Rattle.dots.specs.Panel.{size_of}
 use Rattle.dots.specs.Picture.{answered, dots_on}
 use Rattle.dots.specs.Theorems.{rows_for}
-use Rattle.lines.specs.declared.writer.Written.{Written}
 use Rattle.drawing.specs.declared.drawing.Form.{Form}
 use Rattle.drawing.specs.declared.drawing.Form.TheVariants.{Blocks, Dots, Letters, Bitmap, Cells}
 use Rattle.drawing.specs.declared.grid.Grid.{Grid}
 use Rattle.drawing.specs.Grid.{dot_of, is_lit}
 use Rattle.drawing.specs.Letters.{letter_for}
 use Rattle.drawing.specs.Listing.{is_spare}
-use Rattle.drawing.specs.Drawing.{Drawn, answering, dots_of, drawn_byte, grid_for}
+use Rattle.drawing.specs.Drawing.{Drawn, Written, answering, dots_of, drawn_byte, grid_for}
 use Rattle.drawing.specs.State.{address_shown}
 
 -- Five columns of the grid for each column of the glass, and a row for each row of dots: the grid is lit where the picture's dot
@@ -49,14 +47,14 @@ abbrev pub LettersInPlace : Type 0
 LettersInPlace =
     (dots mem : List ℕ) (rec : Record) (grid : Grid) (line column cell : ℕ)
     → line < grid.size.lines → column < grid.size.columns → rec.control.d ≡ true
-    → shown_at rec.function.n rec.shift grid.profile line column ≡ Cell cell
+    → shown_at rec.function.n rec.shift grid.profile line column ≡ Some cell
     → drawn_byte Letters dots mem rec grid (line * 2 * (grid.size.columns + 3) + (column + 1)) ≡ letter_for (get_or mem cell 0)
 
 -- This position of the glass shows the counter's cell.
 pub record ShowsCounter (rec : Record) (profile : Profile) (line column : ℕ) : Type 0 where
   pub cell : ℕ
   pub counter : rec.counter ≡ Display cell
-  pub shown : shown_at rec.function.n rec.shift profile line column ≡ Cell cell
+  pub shown : shown_at rec.function.n rec.shift profile line column ≡ Some cell
 
 -- A caret stands in the row below it exactly where a position shows the counter's cell.
 abbrev pub CaretInPlace : Type 0

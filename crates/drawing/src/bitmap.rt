@@ -2,41 +2,38 @@
 // the bitmap is one place and the dots stand apart.
 ghost use Rattle.std.specs.Prelude.{◌≡◌, ◌≤◌};
 ghost use Rattle.drawing.specs.Bitmap.{bitmap_head, head_for, pixels_at};
-ghost use Rattle.drawing.specs.Grid.{Small};
 
-use crate::grid::{Grid, is_lit, last_x, last_y};
+use crate::glass::Glass;
 use crate::numbers::four_digits;
 
 // `P4`, and the width and the height in pixels.
 fn head_for(width: usize, height: usize) -> [u8; 13]
     ensures { result ≡ head_for width height }
 {
-    let wide = four_digits(width);
-    let high = four_digits(height);
-    [
-        b'P', b'4', b'\n', wide[0], wide[1], wide[2], wide[3], b' ', high[0], high[1], high[2],
-        high[3], b'\n',
-    ]
+    let mut head = *b"P4\n0000 0000\n";
+    head[8..12].copy_from_slice(&four_digits(height));
+    head[3..7].copy_from_slice(&four_digits(width));
+    head
 }
 
-// The head of a panel's bitmap.
-pub fn bitmap_head(grid: Grid) -> [u8; 13]
-    requires { Small grid }
-    ensures { result ≡ bitmap_head grid }
-{
-    head_for((last_x(grid) + 1) * 8, (last_y(grid) + 1) * 8)
-}
+impl Glass<'_> {
+    // The head of a panel's bitmap.
+    pub fn bitmap_head(&self) -> [u8; 13]
+        ensures { result ≡ bitmap_head self.now.grid }
+    {
+        head_for((self.last_x() + 1) * 8, (self.last_y() + 1) * 8)
+    }
 
-// Eight pixels: the place in this column of the grid, at this row of pixels.
-pub fn pixels_at(dots: &[u8], grid: Grid, x: usize, y: usize) -> u8
-    requires { (Small grid) × (x ≤ 255) × (y ≤ 511) }
-    ensures { result ≡ pixels_at dots.now grid x y }
-{
-    if y % 8 == 7 {
-        return 0;
+    // Eight pixels: the place in this column of the grid, at this row of pixels.
+    #[tactic(auto, unfolding(crate::specs::Bitmap::pixels_at))]
+    pub fn pixels_at(&self, x: usize, y: usize) -> u8
+        requires { (x ≤ 255) × (y ≤ 511) }
+        ensures { result ≡ pixels_at self.now.dots.now self.now.grid x y }
+    {
+        if y % 8 != 7 && self.is_lit(x, y / 8) {
+            0b1111_1110
+        } else {
+            0
+        }
     }
-    if is_lit(dots, grid, x, y / 8) {
-        return 0b1111_1110;
-    }
-    0
 }

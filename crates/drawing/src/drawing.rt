@@ -1,21 +1,17 @@
 // The forms of a drawing, byte by byte, and the public call with its refusals.
-ghost use Rattle.std.specs.Prelude.{◌≡◌, ◌≤◌, ◌<◌, length};
+ghost use Rattle.std.specs.Prelude.{◌≡◌, ◌-◌, ◌/◌, ◌%◌, ◌≤◌, ◌<◌, length};
 ghost use Rattle.dots.specs.Picture.{painted};
 ghost use Rattle.drawing.specs.Drawing.{bitmap_byte, bitmap_length, DrawnTaken, drawn_byte, cells_byte, frame_length};
 ghost use Rattle.drawing.specs.Drawing.{blocks_byte, letters_byte, frame_width, head_byte, length_of, listing_byte, frame_byte};
-ghost use Rattle.drawing.specs.Grid.{Small};
 ghost use Rattle.drawing.specs.Promises.{DrawPromise};
+ghost use Rattle.drawing.specs.State.{state_byte};
 
-use crate::bitmap::{bitmap_head, pixels_at};
-use crate::blocks::{blocks_at, blocks_length, blocks_width};
-use crate::frame::frame_at;
-use crate::grid::{Grid, byte_in, last_x, last_y};
-use crate::letters::{letters_at, letters_length, letters_width};
-use crate::listing::{legend_at, listing_at};
+use crate::glass::Glass;
+use crate::grid::{Grid, byte_in};
+use crate::listing::legend_at;
 use crate::state::state_byte;
-use controller::{Answer, Record, is_done};
+use controller::{Answer, Record};
 use dots::{PICTURE_ROOM, Profile, picture, rows_of, size_of};
-use lines::Written;
 
 // The length of the bitmap's head.
 const HEAD: usize = 13;
@@ -42,189 +38,180 @@ pub enum Form {
     Cells,
 }
 
-// A line of the frame: the grid's columns, one more for its edge, and the end of the line.
-fn frame_width(grid: Grid) -> usize
-    requires { Small grid }
-    ensures { result ≡ frame_width grid }
-{
-    last_x(grid) + 2
-}
-
-fn frame_length(grid: Grid) -> usize
-    requires { Small grid }
-    ensures { result ≡ frame_length grid }
-{
-    frame_width(grid) * (last_y(grid) + 1)
-}
-
-fn bitmap_length(grid: Grid) -> usize
-    requires { Small grid }
-    ensures { result ≡ bitmap_length grid }
-{
-    HEAD + (last_x(grid) + 1) * ((last_y(grid) + 1) * 8)
-}
-
-fn length_of(form: Form, grid: Grid) -> usize
-    requires { Small grid }
-    ensures { result ≡ length_of form grid }
-{
-    match form {
-        Form::Dots => frame_length(grid) + STATE,
-        Form::Blocks => blocks_length(grid) + STATE,
-        Form::Letters => letters_length(grid) + STATE,
-        Form::Bitmap => bitmap_length(grid),
-        Form::Cells => LEGEND + (LISTING + STATE),
+impl Glass<'_> {
+    // A line of the frame: the grid's columns, one more for its edge, and the end of the line.
+    #[tactic(auto, unfolding(crate::specs::Drawing::frame_width))]
+    fn frame_width(&self) -> usize
+        ensures value { result ≡ frame_width self.now.grid }
+        ensures most { result ≤ 242 }
+    {
+        self.last_x() + 2
     }
-}
 
-// The frame line by line, then the state.
-fn frame_byte(dots: &[u8], rec: Record, grid: Grid, place: usize) -> u8
-    requires { Small grid }
-    ensures { result ≡ frame_byte dots.now rec grid place }
-{
-    let length = frame_length(grid);
-    if place < length {
-        let width = frame_width(grid);
-        return frame_at(dots, grid, place % width, place / width);
+    #[tactic(auto, unfolding(crate::specs::Drawing::frame_length))]
+    fn frame_length(&self) -> usize
+        ensures { result ≡ frame_length self.now.grid }
+    {
+        self.frame_width() * (self.last_y() + 1)
     }
-    state_byte(rec, place - length)
-}
 
-// The block characters row by row, then the state.
-fn blocks_byte(dots: &[u8], rec: Record, grid: Grid, place: usize) -> u8
-    requires { Small grid }
-    ensures { result ≡ blocks_byte dots.now rec grid place }
-{
-    let length = blocks_length(grid);
-    if place < length {
-        let width = blocks_width(grid);
-        return blocks_at(dots, grid, place % width, place / width);
+    #[tactic(auto, unfolding(crate::specs::Drawing::bitmap_length))]
+    fn bitmap_length(&self) -> usize
+        ensures { result ≡ bitmap_length self.now.grid }
+    {
+        HEAD + (self.last_x() + 1) * ((self.last_y() + 1) * 8)
     }
-    state_byte(rec, place - length)
-}
 
-// The letters row by row, then the state.
-fn letters_byte(memory: &[u8], rec: Record, grid: Grid, place: usize) -> u8
-    requires { Small grid }
-    ensures { result ≡ letters_byte memory.now rec grid place }
-{
-    let length = letters_length(grid);
-    if place < length {
-        let size = grid.size;
-        let width = letters_width(size);
-        return letters_at(memory, rec, grid, place % width, place / width);
+    fn length_of(&self, form: Form) -> usize
+        ensures { result ≡ length_of form self.now.grid }
+    {
+        match form {
+            Form::Dots => self.frame_length() + STATE,
+            Form::Blocks => self.blocks_length() + STATE,
+            Form::Letters => self.letters_length() + STATE,
+            Form::Bitmap => self.bitmap_length(),
+            Form::Cells => LEGEND + (LISTING + STATE),
+        }
     }
-    state_byte(rec, place - length)
-}
 
-fn head_byte(grid: Grid, place: usize) -> u8
-    requires { Small grid }
-    ensures { result ≡ head_byte grid place }
-{
-    let head = bitmap_head(grid);
-    byte_in(&head, place)
-}
-
-// The head, then the pixels row by row.
-fn bitmap_byte(dots: &[u8], grid: Grid, place: usize) -> u8
-    requires { (Small grid) × (place < bitmap_length grid) }
-    ensures { result ≡ bitmap_byte dots.now grid place }
-{
-    if place < HEAD {
-        return head_byte(grid, place);
+    // The byte at a place of a text, from its column and its row, and behind the text a byte of the state's lines.
+    fn text_byte<F: Fn(usize, usize) -> u8>(
+        &self,
+        width: usize,
+        length: usize,
+        place: usize,
+        at: F,
+    ) -> u8
+        requires some { 0 < width }
+        requires pre { place < length → F.pre at (place % width) (place / width) }
+        ensures text { place < length → F.post at (place % width) (place / width) result }
+        ensures state { length ≤ place → result ≡ state_byte self.now.rec (place - length) }
+    {
+        if place < length {
+            at(place % width, place / width)
+        } else {
+            state_byte(self.rec, place - length)
+        }
     }
-    let width = last_x(grid) + 1;
-    pixels_at(dots, grid, (place - HEAD) % width, (place - HEAD) / width)
-}
 
-// The cells line by line, then the state.
-fn listing_byte(memory: &[u8], rec: Record, profile: Profile, place: usize) -> u8
-    ensures { result ≡ listing_byte memory.now rec profile place }
-{
-    if place < LISTING {
-        return listing_at(
-            memory,
-            rec.function.n,
-            rec.shift,
-            profile,
-            place % LISTING_WIDTH,
-            place / LISTING_WIDTH,
-        );
+    // The frame line by line, then the state.
+    #[tactic(auto, unfolding(crate::specs::Drawing::frame_byte))]
+    fn frame_byte(&self, place: usize) -> u8
+        ensures { result ≡ frame_byte self.now.dots.now self.now.rec self.now.grid place }
+    {
+        self.text_byte(
+            self.frame_width(),
+            self.frame_length(),
+            place,
+            |x, y| self.frame_at(x, y),
+        )
     }
-    state_byte(rec, place - LISTING)
-}
 
-// The legend, then the listing.
-fn cells_byte(memory: &[u8], rec: Record, profile: Profile, place: usize) -> u8
-    ensures { result ≡ cells_byte memory.now rec profile place }
-{
-    if place < LEGEND {
-        return legend_at(place);
+    // The block characters row by row, then the state.
+    #[tactic(auto, unfolding(crate::specs::Drawing::blocks_byte))]
+    fn blocks_byte(&self, place: usize) -> u8
+        ensures { result ≡ blocks_byte self.now.dots.now self.now.rec self.now.grid place }
+    {
+        self.text_byte(
+            self.blocks_width(),
+            self.blocks_length(),
+            place,
+            |at, y| self.blocks_at(at, y),
+        )
     }
-    listing_byte(memory, rec, profile, place - LEGEND)
-}
 
-fn drawn_byte(form: Form, dots: &[u8], memory: &[u8], rec: Record, grid: Grid, place: usize) -> u8
-    requires { (Small grid) × (place < length_of form grid) }
-    ensures { result ≡ drawn_byte form dots.now memory.now rec grid place }
-{
-    let profile = grid.profile;
-    match form {
-        Form::Dots => frame_byte(dots, rec, grid, place),
-        Form::Blocks => blocks_byte(dots, rec, grid, place),
-        Form::Letters => letters_byte(memory, rec, grid, place),
-        Form::Bitmap => bitmap_byte(dots, grid, place),
-        Form::Cells => cells_byte(memory, rec, profile, place),
+    // The letters row by row, then the state.
+    #[tactic(auto, unfolding(crate::specs::Drawing::letters_byte))]
+    fn letters_byte(&self, place: usize) -> u8
+        ensures { result ≡ letters_byte self.now.memory.now self.now.rec self.now.grid place }
+    {
+        self.text_byte(
+            self.letters_width(),
+            self.letters_length(),
+            place,
+            |x, y| self.letters_at(x, y),
+        )
     }
-}
 
-// The whole drawing, byte after byte.
-fn fill(
-    form: Form,
-    dots: &[u8],
-    memory: &[u8],
-    rec: Record,
-    grid: Grid,
-    count: usize,
-    out: &mut [u8],
-)
-    requires { (Small grid) × (count ≡ length_of form grid) × (count ≤ length out.old) }
-    ensures { let byte = drawn_byte form dots.now memory.now rec grid in
-        out.new ≡ painted byte 0 count out.old }
-{
-    let mut place = 0;
-    while place < count {
-        out[place] = drawn_byte(form, dots, memory, rec, grid, place);
-        place += 1;
+    fn head_byte(&self, place: usize) -> u8
+        ensures { result ≡ head_byte self.now.grid place }
+    {
+        byte_in(&self.bitmap_head(), place)
     }
-}
 
-fn refused(answer: Answer) -> Written
-    ensures { result ≡ record { answer = answer; length = 0 } }
-{
-    Written { answer, length: 0 }
-}
-
-// Draws a picture that was taken, where the output has room for it.
-fn draw_taken(
-    form: Form,
-    dots: &[u8],
-    memory: &[u8],
-    rec: Record,
-    grid: Grid,
-    out: &mut [u8],
-) -> Written
-    requires { Small grid }
-    ensures { DrawnTaken form dots.now memory.now rec grid out.old result out.new }
-{
-    let length = length_of(form, grid);
-    if out.len() < length {
-        return refused(Answer::OutputShort);
+    // The head, then the pixels row by row.
+    #[tactic(auto, unfolding(crate::specs::Drawing::bitmap_byte))]
+    fn bitmap_byte(&self, place: usize) -> u8
+        requires { place < bitmap_length self.now.grid }
+        ensures { result ≡ bitmap_byte self.now.dots.now self.now.grid place }
+    {
+        if place < HEAD {
+            self.head_byte(place)
+        } else {
+            let width = self.last_x() + 1;
+            self.pixels_at((place - HEAD) % width, (place - HEAD) / width)
+        }
     }
-    fill(form, dots, memory, rec, grid, length, out);
-    Written {
-        answer: Answer::Done,
-        length,
+
+    // The cells line by line, then the state.
+    #[tactic(auto, unfolding(crate::specs::Drawing::listing_byte))]
+    fn listing_byte(&self, place: usize) -> u8
+        ensures { result ≡ listing_byte self.now.memory.now self.now.rec self.now.grid.profile place }
+    {
+        self.text_byte(
+            LISTING_WIDTH,
+            LISTING,
+            place,
+            |x, line| self.listing_at(x, line),
+        )
+    }
+
+    // The legend, then the listing.
+    #[tactic(auto, unfolding(crate::specs::Drawing::cells_byte))]
+    fn cells_byte(&self, place: usize) -> u8
+        ensures { result ≡ cells_byte self.now.memory.now self.now.rec self.now.grid.profile place }
+    {
+        if place < LEGEND {
+            legend_at(place)
+        } else {
+            self.listing_byte(place - LEGEND)
+        }
+    }
+
+    fn drawn_byte(&self, form: Form, place: usize) -> u8
+        requires { place < length_of form self.now.grid }
+        ensures { result ≡ drawn_byte form self.now.dots.now self.now.memory.now self.now.rec self.now.grid place }
+    {
+        match form {
+            Form::Dots => self.frame_byte(place),
+            Form::Blocks => self.blocks_byte(place),
+            Form::Letters => self.letters_byte(place),
+            Form::Bitmap => self.bitmap_byte(place),
+            Form::Cells => self.cells_byte(place),
+        }
+    }
+
+    // The whole drawing, byte after byte.
+    fn fill(&self, form: Form, out: &mut [u8])
+        requires { length out.old ≡ length_of form self.now.grid }
+        ensures { let byte = drawn_byte form self.now.dots.now self.now.memory.now self.now.rec self.now.grid in
+            out.new ≡ painted byte 0 (length_of form self.now.grid) out.old }
+    {
+        for (place, byte) in out.iter_mut().enumerate() {
+            *byte = self.drawn_byte(form, place);
+        }
+    }
+
+    // Draws a picture that was taken, where the output has room for it.
+    fn draw(&self, form: Form, out: &mut [u8]) -> Result<usize, Answer>
+        ensures { DrawnTaken form self.now.dots.now self.now.memory.now self.now.rec self.now.grid out.old result out.new }
+    {
+        let length = self.length_of(form);
+        if out.len() < length {
+            return Err(Answer::OutputShort);
+        }
+        self.fill(form, &mut out[..length]);
+        Ok(length)
     }
 }
 
@@ -236,19 +223,21 @@ pub fn draw(
     profile: Profile,
     lit: bool,
     out: &mut [u8],
-) -> Written
+) -> Result<usize, Answer>
     ensures { DrawPromise form rec memory.now profile lit out.old result out.new }
 {
     let mut dots = [0u8; PICTURE_ROOM];
-    let answer = picture(rec, memory, profile, lit, &mut dots);
-    if !is_done(answer) {
-        return refused(answer);
-    }
-    let function = rec.function;
+    picture(rec, memory, profile, lit, &mut dots)?;
     let grid = Grid {
         profile,
         size: size_of(profile),
-        rows: rows_of(function),
+        rows: rows_of(rec.function),
     };
-    draw_taken(form, &dots, memory, rec, grid, out)
+    let glass = Glass {
+        grid,
+        dots: &dots,
+        rec,
+        memory,
+    };
+    glass.draw(form, out)
 }

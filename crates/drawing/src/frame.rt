@@ -1,9 +1,8 @@
 // The dots as text in a frame: `#` lit, `.` dark, blanks between the characters.
 ghost use Rattle.std.specs.Prelude.{◌≡◌, ◌≤◌};
-ghost use Rattle.drawing.specs.Grid.{Small};
 ghost use Rattle.drawing.specs.Frame.{border, dot_char, frame_at, is_end};
 
-use crate::grid::{Grid, is_between, is_lit, last_x, last_y};
+use crate::glass::Glass;
 
 fn is_end(last: usize, at: usize) -> bool
     ensures { result ≡ is_end last at }
@@ -14,38 +13,33 @@ fn is_end(last: usize, at: usize) -> bool
 fn border_for(corner: bool) -> u8
     ensures { result ≡ border corner }
 {
-    if corner {
-        return b'+';
-    }
-    b'-'
+    if corner { b'+' } else { b'-' }
 }
 
 fn char_for(lit: bool) -> u8
     ensures { result ≡ dot_char lit }
 {
-    if lit {
-        return b'#';
-    }
-    b'.'
+    if lit { b'#' } else { b'.' }
 }
 
-// The byte of the text at a column and a row of it; past the last column is the end of the line.
-pub fn frame_at(dots: &[u8], grid: Grid, x: usize, y: usize) -> u8
-    requires { (Small grid) × (x ≤ 255) × (y ≤ 255) }
-    ensures { result ≡ frame_at dots.now grid x y }
-{
-    let right = last_x(grid);
-    if x == right + 1 {
-        return b'\n';
+impl Glass<'_> {
+    // The byte of the text at a column and a row of it; past the last column is the end of the line.
+    #[tactic(auto, unfolding(crate::specs::Frame::frame_at))]
+    pub fn frame_at(&self, x: usize, y: usize) -> u8
+        requires { (x ≤ 255) × (y ≤ 255) }
+        ensures { result ≡ frame_at self.now.dots.now self.now.grid x y }
+    {
+        let right = self.last_x();
+        if x == right + 1 {
+            b'\n'
+        } else if is_end(self.last_y(), y) {
+            border_for(is_end(right, x))
+        } else if is_end(right, x) {
+            b'|'
+        } else if self.is_between(x, y) {
+            b' '
+        } else {
+            char_for(self.is_lit(x, y))
+        }
     }
-    if is_end(last_y(grid), y) {
-        return border_for(is_end(right, x));
-    }
-    if is_end(right, x) {
-        return b'|';
-    }
-    if is_between(grid, x, y) {
-        return b' ';
-    }
-    char_for(is_lit(dots, grid, x, y))
 }

@@ -1,149 +1,148 @@
 // The glass as plain text: a row of letters for each line of the glass, and under it a row that marks the counter's place.
 ghost use Rattle.std.specs.Prelude.{◌≡◌, ◌≤◌};
 ghost use Rattle.dots.specs.Geometry.{shown_at};
-ghost use Rattle.dots.specs.Picture.{is_on};
-ghost use Rattle.drawing.specs.Grid.{Small};
 ghost use Rattle.drawing.specs.Letters.{caret_at, column_at, counter_shown, from_column, letter_at, letter_for, letter_shown};
 ghost use Rattle.drawing.specs.Letters.{letters_at, letters_length, letters_width, side_at};
 
-use crate::grid::{Grid, byte_in};
-use controller::{Counter, Record};
-use dots::{Profile, Shown, Size, shown_at};
+use crate::glass::Glass;
+use crate::grid::byte_in;
+use controller::Counter;
+use dots::shown_at;
 
 // The letter of a code: `~` for a pattern, a blank for a code that the font leaves blank.
+#[tactic(auto, unfolding(crate::specs::Letters::letter_for))]
 pub fn letter_for(code: u8) -> u8
     ensures { result ≡ letter_for code }
 {
-    if code < 0x10 {
-        return b'~';
+    match code {
+        0x00..=0x0F => b'~',
+        0x20..=0x7D => code,
+        _ => b' ',
     }
-    if code < 0x20 {
-        return b' ';
-    }
-    if code < 0x7E {
-        return code;
-    }
-    b' '
 }
 
 // What a position reads as, by what it shows.
-fn letter_shown(memory: &[u8], shown: Shown) -> u8
+fn letter_shown(memory: &[u8], shown: Option<usize>) -> u8
     ensures { result ≡ letter_shown memory.now shown }
 {
     match shown {
-        Shown::Cell(cell) => letter_for(byte_in(memory, cell)),
-        Shown::Undriven => b' ',
-    }
-}
-
-// What a line and a column of the glass show.
-fn shown_on(rec: Record, profile: Profile, line: usize, column: usize) -> Shown
-    requires { (line ≤ 255) × (column ≤ 255) }
-    ensures { result ≡ shown_at rec.function.n rec.shift profile line column }
-{
-    shown_at(rec.function.n, rec.shift, profile, line as u8, column as u8)
-}
-
-// The letter at a line and a column of the glass.
-fn letter_at(memory: &[u8], rec: Record, profile: Profile, line: usize, column: usize) -> u8
-    requires { (line ≤ 255) × (column ≤ 255) }
-    ensures { result ≡ letter_at memory.now rec profile line column }
-{
-    if rec.control.d {
-        return letter_shown(memory, shown_on(rec, profile, line, column));
-    }
-    b' '
-}
-
-// Whether the counter is on this display cell.
-fn is_on(counter: Counter, cell: usize) -> bool
-    ensures { result ≡ is_on counter cell }
-{
-    match counter {
-        Counter::Display(at) => at as usize == cell,
-        Counter::Pattern(_) => false,
+        Some(cell) => letter_for(byte_in(memory, cell)),
+        None => b' ',
     }
 }
 
 // Whether the counter is on the cell that is shown.
-fn counter_shown(counter: Counter, shown: Shown) -> bool
+fn counter_shown(counter: Counter, shown: Option<usize>) -> bool
     ensures { result ≡ counter_shown counter shown }
 {
-    match shown {
-        Shown::Cell(cell) => is_on(counter, cell),
-        Shown::Undriven => false,
+    match (counter, shown) {
+        (Counter::Display(at), Some(cell)) => at as usize == cell,
+        _ => false,
     }
-}
-
-// What stands under a line and a column of the glass.
-fn caret_at(rec: Record, profile: Profile, line: usize, column: usize) -> u8
-    requires { (line ≤ 255) × (column ≤ 255) }
-    ensures { result ≡ caret_at rec profile line column }
-{
-    let counter = rec.counter;
-    if counter_shown(counter, shown_on(rec, profile, line, column)) {
-        return b'^';
-    }
-    b' '
 }
 
 // What stands before and after a row.
 fn side_at(y: usize) -> u8
     ensures { result ≡ side_at y }
 {
-    if y % 2 == 0 {
-        return b'|';
-    }
-    b' '
+    if y % 2 == 0 { b'|' } else { b' ' }
 }
 
-// A column of the glass in a row of the text.
-fn column_at(memory: &[u8], rec: Record, profile: Profile, column: usize, y: usize) -> u8
-    requires { (column ≤ 255) × (y ≤ 255) }
-    ensures { result ≡ column_at memory.now rec profile column y }
-{
-    if y % 2 == 0 {
-        return letter_at(memory, rec, profile, y / 2, column);
+impl Glass<'_> {
+    // What a line and a column of the glass show.
+    fn shown_on(&self, line: usize, column: usize) -> Option<usize>
+        requires { (line ≤ 255) × (column ≤ 255) }
+        ensures { result ≡ shown_at self.now.rec.function.n self.now.rec.shift self.now.grid.profile line column }
+    {
+        let rec = self.rec;
+        shown_at(
+            rec.function.n,
+            rec.shift,
+            self.grid.profile,
+            line as u8,
+            column as u8,
+        )
     }
-    caret_at(rec, profile, y / 2, column)
-}
 
-// A row of the text from the glass's first column on.
-fn from_column(memory: &[u8], rec: Record, grid: Grid, column: usize, y: usize) -> u8
-    requires { (column ≤ 255) × (y ≤ 255) }
-    ensures { result ≡ from_column memory.now rec grid column y }
-{
-    let profile = grid.profile;
-    if column < grid.size.columns as usize {
-        return column_at(memory, rec, profile, column, y);
+    // The letter at a line and a column of the glass.
+    #[tactic(auto, unfolding(crate::specs::Letters::letter_at))]
+    fn letter_at(&self, line: usize, column: usize) -> u8
+        requires { (line ≤ 255) × (column ≤ 255) }
+        ensures { result ≡ letter_at self.now.memory.now self.now.rec self.now.grid.profile line column }
+    {
+        if self.rec.control.d {
+            letter_shown(self.memory, self.shown_on(line, column))
+        } else {
+            b' '
+        }
     }
-    if column == grid.size.columns as usize {
-        return side_at(y);
+
+    // What stands under a line and a column of the glass.
+    #[tactic(auto, unfolding(crate::specs::Letters::caret_at))]
+    fn caret_at(&self, line: usize, column: usize) -> u8
+        requires { (line ≤ 255) × (column ≤ 255) }
+        ensures { result ≡ caret_at self.now.rec self.now.grid.profile line column }
+    {
+        if counter_shown(self.rec.counter, self.shown_on(line, column)) {
+            b'^'
+        } else {
+            b' '
+        }
     }
-    b'\n'
-}
 
-// The byte of the text at a place of a row.
-pub fn letters_at(memory: &[u8], rec: Record, grid: Grid, x: usize, y: usize) -> u8
-    requires { (x ≤ 255) × (y ≤ 255) }
-    ensures { result ≡ letters_at memory.now rec grid x y }
-{
-    if x == 0 {
-        return side_at(y);
+    // A column of the glass in a row of the text.
+    #[tactic(auto, unfolding(crate::specs::Letters::column_at))]
+    fn column_at(&self, column: usize, y: usize) -> u8
+        requires { (column ≤ 255) × (y ≤ 255) }
+        ensures { result ≡ column_at self.now.memory.now self.now.rec self.now.grid.profile column y }
+    {
+        if y % 2 == 0 {
+            self.letter_at(y / 2, column)
+        } else {
+            self.caret_at(y / 2, column)
+        }
     }
-    from_column(memory, rec, grid, x - 1, y)
-}
 
-pub fn letters_width(size: Size) -> usize
-    ensures { result ≡ letters_width size }
-{
-    size.columns as usize + 3
-}
+    // A row of the text from the glass's first column on.
+    #[tactic(auto, unfolding(crate::specs::Letters::from_column))]
+    fn from_column(&self, column: usize, y: usize) -> u8
+        requires { (column ≤ 255) × (y ≤ 255) }
+        ensures { result ≡ from_column self.now.memory.now self.now.rec self.now.grid column y }
+    {
+        let columns = self.grid.size.columns as usize;
+        if column < columns {
+            self.column_at(column, y)
+        } else if column == columns {
+            side_at(y)
+        } else {
+            b'\n'
+        }
+    }
 
-pub fn letters_length(grid: Grid) -> usize
-    requires { Small grid }
-    ensures { result ≡ letters_length grid.size }
-{
-    let size = grid.size;
-    letters_width(size) * (size.lines as usize * 2)
+    // The byte of the text at a place of a row.
+    #[tactic(auto, unfolding(crate::specs::Letters::letters_at))]
+    pub fn letters_at(&self, x: usize, y: usize) -> u8
+        requires { (x ≤ 255) × (y ≤ 255) }
+        ensures { result ≡ letters_at self.now.memory.now self.now.rec self.now.grid x y }
+    {
+        if x == 0 {
+            side_at(y)
+        } else {
+            self.from_column(x - 1, y)
+        }
+    }
+
+    #[tactic(auto, unfolding(crate::specs::Letters::letters_width))]
+    pub fn letters_width(&self) -> usize
+        ensures { result ≡ letters_width self.now.grid.size }
+    {
+        self.grid.size.columns as usize + 3
+    }
+
+    #[tactic(auto, unfolding(crate::specs::Letters::letters_length))]
+    pub fn letters_length(&self) -> usize
+        ensures { result ≡ letters_length self.now.grid.size }
+    {
+        self.letters_width() * (self.grid.size.lines as usize * 2)
+    }
 }

@@ -6,6 +6,7 @@ mod bitmap;
 mod blocks;
 mod drawing;
 mod frame;
+mod glass;
 mod grid;
 mod letters;
 mod listing;

@@ -5,14 +5,16 @@ ghost use Rattle.drawing.specs.Numbers.{four_digits, four_wide, padded, two_wide
 use lines::hex_digit;
 
 // The digit of a number at this power of ten; a blank where the number is smaller.
+#[tactic(auto, unfolding(crate::specs::Numbers::padded))]
 pub fn padded_digit(number: usize, power: usize) -> u8
     requires { 1 ≤ power }
     ensures { result ≡ padded number power }
 {
     if number < power {
-        return b' ';
+        b' '
+    } else {
+        hex_digit((number / power % 10) as u8)
     }
-    hex_digit((number / power % 10) as u8)
 }
 
 // A number in two places.

@@ -13,10 +13,7 @@ use lines::hex_digit;
 fn on_off(d: bool) -> [u8; 3]
     ensures { result ≡ on_off d }
 {
-    if d {
-        return *b"on ";
-    }
-    *b"off"
+    if d { *b"on " } else { *b"off" }
 }
 
 // The counter's memory.
@@ -60,56 +57,42 @@ fn half_shown(half: Half) -> [u8; 4]
 fn lines_shown(n: bool) -> u8
     ensures { result ≡ lines_shown n }
 {
-    if n {
-        return b'2';
-    }
-    b'1'
+    if n { b'2' } else { b'1' }
 }
 
 // The width.
 fn width_shown(wide: bool) -> u8
     ensures { result ≡ width_shown wide }
 {
-    if wide {
-        return b'8';
-    }
-    b'4'
+    if wide { b'8' } else { b'4' }
 }
 
 // A setting of one bit.
 fn bit_shown(bit: bool) -> u8
     ensures { result ≡ bit_shown bit }
 {
-    if bit {
-        return b'1';
-    }
-    b'0'
+    if bit { b'1' } else { b'0' }
 }
 
 // The settings, and the oscillator.
 fn settings_line(rec: Record) -> [u8; 66]
     ensures { result ≡ settings_line rec }
 {
-    let on = on_off(rec.control.d);
-    let khz = four_wide(rec.frequency.khz as usize);
     let mut text = *b"width 8  lines 1  F 0  display off  C 0  B 0  I/D 1  S 0  250 kHz\n";
     text[6] = width_shown(rec.wide);
     text[15] = lines_shown(rec.function.n);
     text[20] = bit_shown(rec.function.f);
-    text[31] = on[0];
-    text[32] = on[1];
-    text[33] = on[2];
     text[38] = bit_shown(rec.control.c);
     text[43] = bit_shown(rec.control.b);
     text[50] = bit_shown(rec.entry.id);
     text[55] = bit_shown(rec.entry.s);
-    text[58] = khz[1];
-    text[59] = khz[2];
-    text[60] = khz[3];
+    text[58..61].copy_from_slice(&four_wide(rec.frequency.khz as usize)[1..]);
+    text[31..34].copy_from_slice(&on_off(rec.control.d));
     text
 }
 
 // The counter's address, which its address set has below the bit that names the memory.
+#[tactic(auto, unfolding(crate::specs::State::address_shown))]
 fn address_shown(n: bool, counter: Counter) -> u8
     ensures { result ≡ address_shown n counter }
 {
@@ -123,21 +106,12 @@ fn address_shown(n: bool, counter: Counter) -> u8
 fn counter_field(n: bool, counter: Counter) -> [u8; 36]
     ensures { result ≡ counter_field n counter }
 {
-    let name = memory_shown(counter);
-    let cell = two_wide(cell_of(counter) as usize);
     let address = address_shown(n, counter);
     let mut text = *b"counter display cell  0, address 00h";
-    text[8] = name[0];
-    text[9] = name[1];
-    text[10] = name[2];
-    text[11] = name[3];
-    text[12] = name[4];
-    text[13] = name[5];
-    text[14] = name[6];
-    text[21] = cell[0];
-    text[22] = cell[1];
     text[33] = hex_digit(address / 16);
     text[34] = hex_digit(address % 16);
+    text[21..23].copy_from_slice(&two_wide(cell_of(counter) as usize));
+    text[8..15].copy_from_slice(&memory_shown(counter));
     text
 }
 
@@ -145,23 +119,12 @@ fn counter_field(n: bool, counter: Counter) -> [u8; 36]
 fn last_fields(rec: Record) -> [u8; 34]
     ensures { result ≡ last_fields rec }
 {
-    let half = rec.half;
     let busy = rec.busy as usize;
-    let shift = two_wide(rec.shift as usize);
-    let low = four_wide(busy);
-    let waiting = half_shown(half);
     let mut text = *b"  shift  0  busy     0  half none\n";
-    text[8] = shift[0];
-    text[9] = shift[1];
     text[17] = padded_digit(busy, 10_000);
-    text[18] = low[0];
-    text[19] = low[1];
-    text[20] = low[2];
-    text[21] = low[3];
-    text[29] = waiting[0];
-    text[30] = waiting[1];
-    text[31] = waiting[2];
-    text[32] = waiting[3];
+    text[29..33].copy_from_slice(&half_shown(rec.half));
+    text[18..22].copy_from_slice(&four_wide(busy));
+    text[8..10].copy_from_slice(&two_wide(rec.shift as usize));
     text
 }
 
@@ -170,21 +133,20 @@ fn moving_byte(rec: Record, place: usize) -> u8
     ensures { result ≡ get_or (moving_line rec) place 0 }
 {
     if place < 36 {
-        let counter = rec.counter;
-        let text = counter_field(rec.function.n, counter);
-        return text[place];
+        counter_field(rec.function.n, rec.counter)[place]
+    } else {
+        byte_in(&last_fields(rec), place - 36)
     }
-    let text = last_fields(rec);
-    byte_in(&text, place - 36)
 }
 
 // A byte of the state's lines, whose fields stand at fixed places, so that two states can be compared one below the other.
+#[tactic(auto, unfolding(crate::specs::State::state_lines))]
 pub fn state_byte(rec: Record, place: usize) -> u8
     ensures { result ≡ state_byte rec place }
 {
     if place < 66 {
-        let text = settings_line(rec);
-        return text[place];
+        settings_line(rec)[place]
+    } else {
+        moving_byte(rec, place - 66)
     }
-    moving_byte(rec, place - 66)
 }

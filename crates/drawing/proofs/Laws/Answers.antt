@@ -1,23 +1,25 @@
 -- The answers of a drawing: those of the picture beneath, which always has room, and then 11.
 -- Assumes nothing.
-use mathlib.Core.Bool.{Bool, true, false}
+use mathlib.Core.Bool.{Bool, true, false, cond}
 use mathlib.Core.List.{List}
-use mathlib.Core.Path.{◌≡◌, ap}
+use mathlib.Core.Path.{◌≡◌, refl, sym, ap, ◌∙◌}
 use Prim.Native.Nat.{ℕ}
 use lib.ListN.{length}
+use Rattle.std.specs.Prelude.{Result, Ok, Err, ⊤}
+use Rattle.controller.specs.declared.answers.Answer.{Answer}
+use Rattle.controller.specs.declared.answers.Answer.TheVariants.{Done, OutputShort}
 use Rattle.controller.specs.declared.«record».Record.{Record}
 use Rattle.controller.specs.Answers.{is_done, is_refusal, number_of}
 use Rattle.controller.proofs.Laws.Answers.{done_is}
 use Rattle.dots.specs.declared.panel.Profile.{Profile}
 use Rattle.dots.specs.Geometry.{picture_length, picture_room}
-use Rattle.dots.specs.Picture.{answered}
-use Rattle.dots.proofs.Answers.{Passed, passed, refused_alike, room_is}
+use Rattle.dots.specs.Picture.{answer_of, answered, result_of as picture_result}
+use Rattle.dots.proofs.Answers.{Passed, not_done, passed, refused_alike, room_is, told_back}
 use Rattle.dots.proofs.Panels.{panel_columns, panel_lines, picture_fits}
 use Rattle.dots.proofs.Places.{height_most}
-use Rattle.lines.specs.declared.writer.Written.{Written}
 use Rattle.drawing.specs.declared.drawing.Form.{Form}
 use Rattle.drawing.specs.Grid.{Small}
-use Rattle.drawing.specs.Drawing.{Drawn, DrawnTaken, answering, dots_of, drawn_length, grid_for, telling}
+use Rattle.drawing.specs.Drawing.{DrawReturns, DrawnTaken, Written, answering, dots_of, drawn_length, grid_for, result_of, telling, written_in}
 
 -- What a picture that was taken shows.
 abbrev Seen : Record → List ℕ → Profile → Type 0
@@ -32,20 +34,45 @@ pub seen_small : (rec : Record) (mem : List ℕ) (profile : Profile) → Seen re
 seen_small rec mem profile s =
     record { columns = panel_columns profile s.fits; lines = panel_lines profile s.fits; rows = height_most rec.function }
 
+-- a picture that is told to be refused, or to be drawn
+pub told_refused : {told : Result ⊤ Answer} (answer refusal : Answer) → told ≡ Err refusal → told ≡ picture_result answer
+    → (answer ≡ refusal) × (is_done answer ≡ false)
+told_refused {told} answer refusal is promised =
+    let same : answer ≡ refusal = sym (told_back answer) ∙ ap answer_of (sym promised ∙ is) in
+    (same, rw same (not_done answer refusal (sym is ∙ promised)))
+
+pub told_drawn : {told : Result ⊤ Answer} (answer : Answer) (nothing : ⊤) → told ≡ Ok nothing → told ≡ picture_result answer → is_done answer ≡ true
+told_drawn {told} answer nothing is promised =
+    let same : answer ≡ Done = sym (told_back answer) ∙ ap answer_of (sym promised ∙ is) in
+    rw same refl
+
+-- what is told of a drawing that 11 is left for
+room_told : (short : Bool) (long : ℕ) → written_in (result_of (telling (cond short OutputShort Done) long)) ≡ telling (cond short OutputShort Done) long
+unfolding is_refusal
+room_told true long = refl
+room_told false long = refl
+
 module _ (form : Form) (rec : Record) (mem : List ℕ) (profile : Profile) (lit : Bool) (before : List ℕ) where
   -- a picture that is refused: so is the drawing, with the same answer
   pub refused_drawn : is_done (answered rec mem profile picture_room) ≡ false
-      → Drawn form rec mem profile lit before (record { answer = answered rec mem profile picture_room; length = 0 }) before
+      → DrawReturns form rec mem profile lit before (Err (answered rec mem profile picture_room)) before
   refused_drawn not_done =
       let refusal = refused_alike rec mem profile _ picture_room (picture_fits rec.function profile) not_done in
       let same = refusal.1 (drawn_length form rec profile) (length before) in
-      record { told = simp (same, refusal.0); number = simp same; out = simp (same, refusal.0) }
+      record {
+        told = simp (same, not_done);
+        drawn = record { told = simp (same, refusal.0); number = simp same; out = simp (same, refusal.0) };
+      }
 
   -- a picture that was taken: 11 is left to be given
-  pub taken_drawn : {returned : Written} {after : List ℕ} → Seen rec mem profile
+  pub taken_drawn : {returned : Result ℕ Answer} {after : List ℕ} → Seen rec mem profile
       → DrawnTaken form (dots_of rec mem profile lit) mem rec (grid_for rec profile) before returned after
-      → Drawn form rec mem profile lit before returned after
+      → DrawReturns form rec mem profile lit before returned after
   taken_drawn {returned} {after} s taken =
       let same = room_is rec mem profile (drawn_length form rec profile) (length before) s.sound s.whole s.fits in
-      let told : returned ≡ telling (answering form rec mem profile (length before)) (drawn_length form rec profile) = simp same taken.told in
-      record { told = told; number = ap (λ (w : Written). number_of w.answer) told; out = simp same taken.out }
+      let told : written_in returned ≡ telling (answering form rec mem profile (length before)) (drawn_length form rec profile) =
+      simp (same, taken.told) (room_told _ _) in
+      record {
+        told = simp same taken.told;
+        drawn = record { told = told; number = ap (λ (w : Written). number_of w.answer) told; out = simp same taken.out };
+      }
