@@ -4,11 +4,10 @@
 
 mod options;
 
-ghost use Rattle.std.specs.Prelude.{◌≡◌, ◌+◌, ◌*◌, ◌≤◌, length};
-ghost use Rattle.controller.specs.declared.answers.Answer.TheVariants.{Done};
+ghost use Rattle.std.specs.Prelude.{◌+◌, ◌*◌, ◌≤◌, IsOk, length};
 
-use controller::Frequency;
-use lines::{Written, first};
+use controller::{Answer, Frequency};
+use lines::first;
 use options::asked_frequency;
 use player::{play, play_through};
 use std::process::ExitCode;
@@ -24,9 +23,9 @@ const NAME: &str = "session";
 const OUTPUT: usize = 6 * LIMIT + 62;
 
 // The report, into a buffer that always serves.
-fn write_report(text: &[u8], frequency: Frequency, out: &mut [u8]) -> Written
+fn write_report(text: &[u8], frequency: Frequency, out: &mut [u8]) -> Result<usize, Answer>
     requires { 6 * length text.now + 62 ≤ length out.old }
-    ensures { result.answer ≡ Done }
+    ensures { IsOk result }
 {
     play(text, frequency, out)
 }
@@ -45,8 +44,8 @@ fn report(rt: HostRuntime, text: &[u8], frequency: Frequency) -> Result<(), Unhe
     requires { length text.now ≤ 65536 }
 {
     let mut out = [0u8; OUTPUT];
-    let written = write_report(text, frequency, &mut out);
-    let report = first(&out, written.length);
+    let length = write_report(text, frequency, &mut out).unwrap();
+    let report = first(&out, length);
     send_or_tell(&mut rt.stdout(), &mut rt.stderr(), NAME, report)?;
     if !ends_badly(report) {
         return Ok(());

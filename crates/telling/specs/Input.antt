@@ -1,8 +1,6 @@
 -- What was read of an input.
 -- Assumes nothing.
-use Rattle.std.specs.Prelude.{ℕ}
-use Rattle.std.specs.declared.result.Result.{Result}
-use Rattle.std.specs.declared.result.Result.TheVariants.{Ok, Err}
+use Rattle.std.specs.Prelude.{ℕ, Result, Ok, Err}
 use Rattle.telling.specs.declared.input.Unread.{Unread}
 
 -- How many bytes were read, also where a read failed.

@@ -45,7 +45,7 @@ fn cause_of(answer: Answer, offset: usize, there: Option<u8>) -> &'static str {
     }
 }
 
-// The bad line of this number that begins at this place of a text.
+// The bad line of this number that begins at this place of a text. Of one that stands there is nothing to tell.
 pub fn tell_bad_line<W: Write>(
     errors: &mut W,
     program: &str,
@@ -54,12 +54,12 @@ pub fn tell_bad_line<W: Write>(
     from: usize,
 ) -> Result<(), Unheard> {
     let rest = &text[from.min(text.len())..];
-    let read = read_line(rest);
-    let answer = read.answer;
-    let offset = read.offset;
-    let column = offset + 1;
-    let rule = rule_of(answer);
-    let cause = cause_of(answer, offset, rest.get(offset).copied());
+    let Err(bad) = read_line(rest) else {
+        return Ok(());
+    };
+    let column = bad.offset + 1;
+    let rule = rule_of(bad.answer);
+    let cause = cause_of(bad.answer, bad.offset, rest.get(bad.offset).copied());
     tell(
         errors,
         program,

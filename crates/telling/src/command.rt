@@ -25,7 +25,7 @@ pub fn frequency_of(word: &[u8]) -> Option<Frequency>
     ensures { result ≡ frequency_of word.now }
 {
     let frequency = Frequency {
-        khz: three_digits(word),
+        khz: three_digits(word)?,
     };
     if is_in_range(frequency) {
         Some(frequency)
