@@ -69,7 +69,8 @@ fn put_block(sheet: &mut Sheet, first: u8)
         lines: 1,
     });
     let mut shapes = [0u8; 128];
-    picture(shown(), &codes_from(first), panel, false, &mut shapes);
+    // Nothing is refused: the record is sound, and memory and shapes are as long as they must be.
+    let _ = picture(shown(), &codes_from(first), panel, false, &mut shapes);
     put_codes(sheet, first);
     for row in shapes.chunks(16) {
         for &dots in row {

@@ -8,179 +8,117 @@ mod refusals;
 use controller::number;
 use drawing::{Form, draw};
 use lines::{first, write_header, write_row};
-use options::{Options, are_good, panel_of, read_options};
+use options::{Options, read_options};
 use player::{Standing, play_through};
-use refusals::tell_refusals;
+use refusals::refusals_of;
 use std::io::IsTerminal;
 use std::process::ExitCode;
 use telling::{
-    INPUT, LIMIT, Sent, is_heard, is_whole, read_input, send, send_or_tell, status_of, tell,
-    tell_bad_line, tell_too_long, tell_unread,
+    INPUT, LIMIT, Unheard, Unsent, heard, read_input, send, send_or_tell, status_of, tell,
+    tell_bad_line, tell_too_long, tell_unread, whole_or_told,
 };
+
+// The program's name, before what it tells.
+const NAME: &str = "glass";
 
 // More than any drawing takes.
 const OUTPUT: usize = 65_536;
 
 // Where something is written.
 #[derive(Clone, Copy)]
-pub enum Place {
+enum Place {
     Output,
     Errors,
 }
 
-fn tell_usage(rt: HostRuntime) -> Sent {
-    let mut errors = rt.stderr();
-    let panels = tell(
-        &mut errors,
-        b"glass",
-        b"these words cannot be followed. Allowed are COLUMNS LINES (1 to 40, 1 or 2; 20 4; without them 16 2) or --divided,",
-    );
-    if !is_heard(panels) {
-        return panels;
+fn tell_usage(rt: HostRuntime) -> Result<(), Unheard> {
+    for words in [
+        "these words cannot be followed. Allowed are COLUMNS LINES (1 to 40, 1 or 2; 20 4; without them 16 2) or --divided,",
+        "--until TRANSFERS (0 to 99999), --khz N (190 to 350; without it 250)",
+        "and one of --dots, --blocks, --text, --cells and --pbm",
+    ] {
+        tell(&mut rt.stderr(), NAME, words)?;
     }
-    let numbers = tell(
-        &mut errors,
-        b"glass",
-        b"--until TRANSFERS (0 to 99999), --khz N (190 to 350; without it 250)",
-    );
-    if !is_heard(numbers) {
-        return numbers;
-    }
-    tell(
-        &mut errors,
-        b"glass",
-        b"and one of --dots, --blocks, --text, --cells and --pbm",
-    )
+    Ok(())
 }
 
 // Writes all of a text, if it can.
-pub fn write_at(rt: HostRuntime, place: Place, text: &[u8]) -> Sent {
-    let mut output = rt.stdout();
-    let mut errors = rt.stderr();
+fn write_at(rt: HostRuntime, place: Place, text: &[u8]) -> Result<(), Unsent> {
     match place {
-        Place::Output => send(&mut output, text),
-        Place::Errors => send(&mut errors, text),
-    }
-}
-
-// The same, or tells that it could not.
-fn print(rt: HostRuntime, place: Place, text: &[u8]) -> Sent {
-    let mut output = rt.stdout();
-    let mut errors = rt.stderr();
-    let mut words = rt.stderr();
-    match place {
-        Place::Output => send_or_tell(&mut output, &mut errors, b"glass", text),
-        Place::Errors => send_or_tell(&mut words, &mut errors, b"glass", text),
+        Place::Output => send(&mut rt.stdout(), text),
+        Place::Errors => send(&mut rt.stderr(), text),
     }
 }
 
 // On a terminal block characters, which fit its width; elsewhere dots, which any program can read.
 fn usual_form(rt: HostRuntime) -> Form {
     if rt.stdout().is_terminal() {
-        return Form::Blocks;
-    }
-    Form::Dots
-}
-
-fn is_bitmap(form: Form) -> bool {
-    match form {
-        Form::Dots => false,
-        Form::Blocks => false,
-        Form::Letters => false,
-        Form::Bitmap => true,
-        Form::Cells => false,
+        Form::Blocks
+    } else {
+        Form::Dots
     }
 }
 
 // A bitmap is to be alone on standard output, so that a viewer can read it.
 fn place_for_words(form: Form) -> Place {
-    if is_bitmap(form) {
-        return Place::Errors;
+    match form {
+        Form::Bitmap => Place::Errors,
+        _ => Place::Output,
     }
-    Place::Output
 }
 
 // The bad line that ended a session, as the session program tells it: the header and its row, and words.
-fn tell_end(rt: HostRuntime, form: Form, standing: Standing, text: &[u8]) -> Sent {
-    let mut errors = rt.stderr();
+fn tell_end(rt: HostRuntime, place: Place, standing: Standing, text: &[u8]) -> Result<(), Unheard> {
     let mut head = [0u8; 20];
     let mut row = [0u8; 42];
-    let place = place_for_words(form);
-    let answer = standing.answer;
     let line = standing.number;
     write_header(&mut head);
-    let written = write_row(line, number(answer), 0, standing.rec.busy, &mut row);
-    let headed = write_at(rt, place, &head);
-    if !is_heard(headed) {
-        return headed;
-    }
-    let rowed = write_at(rt, place, first(&row, written.length));
-    if !is_heard(rowed) {
-        return rowed;
-    }
-    tell_bad_line(&mut errors, b"glass", line, text, standing.from)
+    let written = write_row(line, number(standing.answer), 0, standing.rec.busy, &mut row);
+    heard(write_at(rt, place, &head))?;
+    heard(write_at(rt, place, first(&row, written.length)))?;
+    tell_bad_line(&mut rt.stderr(), NAME, line, text, standing.from)
 }
 
 // Draws the panel in the lit phase, and tells of refusals; a size that no panel has is told with what is allowed.
-fn show(rt: HostRuntime, options: Options, standing: Standing) -> Sent {
+fn show(rt: HostRuntime, options: Options, standing: Standing) -> Result<(), Unheard> {
     let mut out = [0u8; OUTPUT];
     let form = options.form;
-    let rec = standing.rec;
-    let memory = standing.memory;
-    let panel = panel_of(options);
-    let drawn = draw(form, rec, &memory, panel, true, &mut out);
-    let answer = drawn.answer;
-    if number(answer) != 0 {
+    let drawn = draw(form, standing.rec, &standing.memory, options.panel, true, &mut out);
+    if number(drawn.answer) != 0 {
         return tell_usage(rt);
     }
-    let sent = print(rt, Place::Output, first(&out, drawn.length));
-    if !is_whole(sent) {
-        return sent;
+    let whole = send_or_tell(&mut rt.stdout(), &mut rt.stderr(), NAME, first(&out, drawn.length))?;
+    if !whole || (matches!(form, Form::Bitmap) && standing.refusals == 0) {
+        return Ok(());
     }
-    if is_bitmap(form) && standing.refusals == 0 {
-        return sent;
-    }
-    tell_refusals(rt, place_for_words(form), standing)
+    heard(write_at(rt, place_for_words(form), refusals_of(standing).text()))
 }
 
 // Plays a session, tells of a bad line, and draws what was played so far.
-fn play_and_show(rt: HostRuntime, options: Options, text: &[u8]) -> Sent {
-    let frequency = options.frequency;
-    let standing = play_through(text, frequency, options.until);
-    let answer = standing.answer;
-    if number(answer) != 0 {
-        let form = options.form;
-        let told = tell_end(rt, form, standing, text);
-        if !is_heard(told) {
-            return told;
-        }
+fn play_and_show(rt: HostRuntime, options: Options, text: &[u8]) -> Result<(), Unheard> {
+    let standing = play_through(text, options.frequency, options.until);
+    if number(standing.answer) != 0 {
+        tell_end(rt, place_for_words(options.form), standing, text)?;
     }
     show(rt, options, standing)
 }
 
-// Reads the session, plays it and draws: what became of what was written last, at which the run ends where nobody reads it.
-fn run(rt: HostRuntime) -> Sent {
-    let mut from = rt.stdin();
+// Reads the session, plays it and draws. The run ends early where nobody reads what it writes.
+fn run(rt: HostRuntime) -> Result<(), Unheard> {
     let mut errors = rt.stderr();
-    let options = read_options(&rt, usual_form(rt));
-    if !are_good(options) {
+    let Some(options) = read_options(&rt, usual_form(rt)) else {
         return tell_usage(rt);
-    }
+    };
     let mut input = [0u8; INPUT];
-    let got = read_input(&mut from, &mut input);
-    if got.failed {
-        return tell_unread(&mut errors, b"glass", b"Nothing was played.");
-    }
-    let length = got.length;
+    let Ok(length) = read_input(&mut rt.stdin(), &mut input) else {
+        return tell_unread(&mut errors, NAME, "Nothing was played.");
+    };
     if LIMIT < length {
-        let form = options.form;
-        let sent = print(rt, place_for_words(form), b"too long\n");
-        if !is_heard(sent) {
-            return sent;
-        }
-        return tell_too_long(&mut errors, b"glass", b"Nothing was played.");
+        let sent = write_at(rt, place_for_words(options.form), b"too long\n");
+        whole_or_told(sent, &mut errors, NAME)?;
+        return tell_too_long(&mut errors, NAME, "Nothing was played.");
     }
-    play_and_show(rt, options, first(&input, length))
+    play_and_show(rt, options, &input[..length])
 }
 
 fn main(rt: HostRuntime) -> ExitCode {
