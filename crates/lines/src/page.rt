@@ -1,9 +1,6 @@
 // A page: text that is put together piece by piece in a buffer of its own, without a heap. What does not fit is left out.
 ghost use Rattle.std.specs.Prelude.{◌≡◌, ◌≤◌, ℕ, List, [], ◌∷◌, ◌++◌, length, take, IsOk};
-ghost use Rattle.lines.specs.Digits.{decimal, hex_pair};
 
-use crate::digits::hex_digit;
-use crate::fields::put_decimal;
 use std::fmt;
 use std::fmt::Write;
 use std::marker::Model;
@@ -58,22 +55,6 @@ impl<const N: usize> Page<N> {
         ensures { self.new ≡ take N (self.old ++ byte ∷ []) }
     {
         self.put_text(&[byte]);
-    }
-
-    // A number in decimal, without leading zeros.
-    pub fn put_number(&mut self, number: u64)
-        ensures { self.new ≡ take N (self.old ++ decimal number) }
-    {
-        let mut digits = [0u8; 20];
-        let length = put_decimal(number, &mut digits, 0);
-        self.put_text(&digits[..length]);
-    }
-
-    // A byte as two hex digits.
-    pub fn put_hex(&mut self, byte: u8)
-        ensures { self.new ≡ take N (self.old ++ hex_pair byte) }
-    {
-        self.put_text(&[hex_digit(byte / 16), hex_digit(byte % 16)]);
     }
 }
 
