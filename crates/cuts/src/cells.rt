@@ -1,37 +1,20 @@
 // The bytes that the 144 cells hold at first, and those that a wish has for them.
-ghost use Rattle.std.specs.Prelude.{◌<◌};
+use std::array;
 
 // What the cell at this place holds before the first run: another byte at every place.
-pub fn first_byte(place: usize) -> u8
-    requires { place < 144 }
-{
-    ((place * 7 + 13) % 256) as u8
+pub fn first_byte(place: u8) -> u8 {
+    place.wrapping_mul(7).wrapping_add(13)
 }
 
 // What a wish has for the cell at this place. 31 * place + 4 and 7 * place + 13 differ by an odd number, so it is never
 // the first byte, and a cell that was not written shows.
-pub fn wished_byte(place: usize) -> u8
-    requires { place < 144 }
-{
-    ((place * 31 + 4) % 256) as u8
+pub fn wished_byte(place: u8) -> u8 {
+    place.wrapping_mul(31).wrapping_add(4)
 }
 
-fn byte_at(place: usize, wished: bool) -> u8
-    requires { place < 144 }
+// The bytes of all cells.
+pub fn cells_by<F: Fn(u8) -> u8>(byte_at: F) -> [u8; 144]
+    requires { F.IsAlwaysCallable byte_at }
 {
-    if wished {
-        return wished_byte(place);
-    }
-    first_byte(place)
-}
-
-// The bytes of all cells: those that a wish has, or those at first.
-pub fn cell_bytes(wished: bool) -> [u8; 144] {
-    let mut bytes = [0u8; 144];
-    let mut place = 0;
-    while place < 144 {
-        bytes[place] = byte_at(place, wished);
-        place += 1;
-    }
-    bytes
+    array::from_fn(|place| byte_at(place as u8))
 }

@@ -1,40 +1,27 @@
 // What is counted on the way. The sums wrap rather than ask that they fit; they stay below a hundred million.
-use std::num::wrapping_add_u64;
 
-// The length of the report so far, the runs played, the transfers sent in them, and the runs that ended wrong.
-#[derive(Clone, Copy)]
+// The runs played, the transfers sent in them, and the runs that ended wrong.
+#[derive(Clone, Copy, Default)]
 pub struct Tally {
-    pub at: usize,
     pub runs: u64,
     pub transfers: u64,
     pub wrong: u64,
 }
 
-pub fn add_run(tally: Tally, sent: u64, wrong: u64) -> Tally {
-    Tally {
-        at: tally.at,
-        runs: wrapping_add_u64(tally.runs, 1),
-        transfers: wrapping_add_u64(tally.transfers, sent),
-        wrong: wrapping_add_u64(tally.wrong, wrong),
+impl Tally {
+    // With one run more.
+    pub fn add(&mut self, sent: u64, is_fine: bool) {
+        self.runs = self.runs.wrapping_add(1);
+        self.transfers = self.transfers.wrapping_add(sent);
+        self.wrong = self.wrong.wrapping_add(u64::from(!is_fine));
     }
-}
 
-// A tally of its own for a wish. The wrong runs are counted on, since only the first are named.
-pub fn begin(total: Tally) -> Tally {
-    Tally {
-        at: total.at,
-        runs: 0,
-        transfers: 0,
-        wrong: total.wrong,
-    }
-}
-
-// The total with the tally that was begun from it.
-pub fn join(total: Tally, more: Tally) -> Tally {
-    Tally {
-        at: more.at,
-        runs: wrapping_add_u64(total.runs, more.runs),
-        transfers: wrapping_add_u64(total.transfers, more.transfers),
-        wrong: more.wrong,
+    // What was counted since this earlier tally.
+    pub fn since(self, earlier: Tally) -> Tally {
+        Tally {
+            runs: self.runs.wrapping_sub(earlier.runs),
+            transfers: self.transfers.wrapping_sub(earlier.transfers),
+            wrong: self.wrong.wrapping_sub(earlier.wrong),
+        }
     }
 }

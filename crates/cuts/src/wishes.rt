@@ -2,122 +2,174 @@
 use controller::{Control, Entry, Frequency, Function};
 use planner::Wish;
 
-// How many wishes there are.
-pub const WISHES: u8 = 8;
+// Which of the 144 cells a wish names.
+#[derive(Clone, Copy)]
+pub enum Named {
+    Nothing,
+    All,
+    // Across the middle of the display memory.
+    Middle,
+    EverySecond,
+    // The last display cell, the first pattern cell and the last one.
+    Edges,
+    // Two cells and a gap, over and over.
+    Pairs,
+    Only(u8),
+}
 
-// N and F: one line, one line of tall letters, or two lines.
-fn function_of(wish: u8) -> Function {
-    match wish {
-        1 | 6 => Function { n: false, f: false },
-        2 => Function { n: false, f: true },
-        _ => Function { n: true, f: false },
+impl Named {
+    pub fn has(self, place: u8) -> bool {
+        match self {
+            Named::Nothing => false,
+            Named::All => true,
+            Named::Middle => 30 <= place && place < 50,
+            Named::EverySecond => place % 2 == 0,
+            Named::Edges => matches!(place, 79 | 80 | 143),
+            Named::Pairs => place % 3 != 2,
+            Named::Only(one) => place == one,
+        }
     }
 }
 
-fn control(d: bool, c: bool, b: bool) -> Control {
-    Control { d, c, b }
+// A wish on a module of whatever frequency: how the panel is to stand, and which cells are named.
+#[derive(Clone, Copy)]
+pub struct Case {
+    function: Function,
+    control: Control,
+    entry: Entry,
+    shift: u8,
+    cursor: u8,
+    pub named: Named,
 }
 
-// D, C and B.
-fn control_of(wish: u8) -> Control {
-    match wish {
-        1 | 6 => control(true, true, false),
-        3 => control(true, true, true),
-        4 => control(false, false, false),
-        5 => control(true, false, true),
-        _ => control(true, false, false),
+impl Case {
+    // How the panel is to stand, on a module of this frequency.
+    pub fn wish(&self, frequency: Frequency) -> Wish {
+        Wish {
+            function: self.function,
+            control: self.control,
+            entry: self.entry,
+            shift: self.shift,
+            cursor: self.cursor,
+            frequency,
+        }
     }
 }
 
-// I/D and S.
-fn entry_of(wish: u8) -> Entry {
-    match wish {
-        2 | 5 => Entry { id: true, s: true },
-        3 | 7 => Entry { id: false, s: true },
-        6 => Entry {
-            id: false,
-            s: false,
-        },
-        _ => Entry { id: true, s: false },
-    }
-}
+const ONE_LINE: Function = Function { n: false, f: false };
 
-// 79 and 39 are the longest shifts of one line and of two.
-fn shift_of(wish: u8) -> u8 {
-    match wish {
-        1 => 79,
-        2 => 1,
-        3 => 39,
-        5 => 20,
-        6 => 40,
-        7 => 2,
-        _ => 0,
-    }
-}
+const ONE_TALL_LINE: Function = Function { n: false, f: true };
 
-// The display cell of the cursor.
-fn cursor_of(wish: u8) -> u8 {
-    match wish {
-        2 => 39,
-        3 => 79,
-        4 | 7 => 40,
-        5 => 41,
-        6 => 78,
-        _ => 0,
-    }
-}
+const TWO_LINES: Function = Function { n: true, f: false };
 
-// How the panel is to stand, on a module of this frequency. 0 is the plain wish of P12, and 1 has the longest plan that there
-// can be.
-pub fn wish_of(wish: u8, frequency: Frequency) -> Wish {
-    Wish {
-        function: function_of(wish),
-        control: control_of(wish),
-        entry: entry_of(wish),
-        shift: shift_of(wish),
-        cursor: cursor_of(wish),
-        frequency,
-    }
-}
+// D, C and B: the display off, on, and on with the cursor, the blinking or both.
+const OFF: Control = Control {
+    d: false,
+    c: false,
+    b: false,
+};
 
-// The last display cell, the first pattern cell and the last one.
-fn is_edge(place: usize) -> bool {
-    place == 79 || place == 80 || place == 143
-}
+const ON: Control = Control {
+    d: true,
+    c: false,
+    b: false,
+};
 
-// Across the middle of the display memory.
-fn is_middle(place: usize) -> bool {
-    30 <= place && place < 50
-}
+const CURSOR: Control = Control {
+    d: true,
+    c: true,
+    b: false,
+};
 
-// Whether a wish names the cell at this place: 0 none, 1 all, 2 one run of cells, 3 every second, 4 those at the edges,
-// 5 runs and gaps, 6 one pattern cell, 7 one display cell.
-pub fn is_marked(wish: u8, place: usize) -> bool {
-    match wish {
-        0 => false,
-        1 => true,
-        2 => is_middle(place),
-        3 => place % 2 == 0,
-        4 => is_edge(place),
-        5 => place % 3 != 2,
-        6 => place == 100,
-        _ => place == 40,
-    }
-}
+const BLINK: Control = Control {
+    d: true,
+    c: false,
+    b: true,
+};
 
-fn mark(marked: bool) -> u8 {
-    if marked {
-        return 1;
-    }
-    0
-}
+const BOTH: Control = Control {
+    d: true,
+    c: true,
+    b: true,
+};
 
-pub fn marks_of(wish: u8) -> [u8; 144] {
-    let mut marks = [0u8; 144];
-    let mut place = 0;
-    while place < 144 {
-        marks[place] = mark(is_marked(wish, place));
-        place += 1;
-    }
-    marks
-}
+// I/D, and S where the display shifts.
+const UP: Entry = Entry { id: true, s: false };
+
+const UP_SHIFTED: Entry = Entry { id: true, s: true };
+
+const DOWN: Entry = Entry {
+    id: false,
+    s: false,
+};
+
+const DOWN_SHIFTED: Entry = Entry { id: false, s: true };
+
+// The first is the plain wish of P12, and the second has the longest plan that there can be. 79 and 39 are the longest shifts
+// of one line and of two.
+pub const CASES: [Case; 8] = [
+    Case {
+        function: TWO_LINES,
+        control: ON,
+        entry: UP,
+        shift: 0,
+        cursor: 0,
+        named: Named::Nothing,
+    },
+    Case {
+        function: ONE_LINE,
+        control: CURSOR,
+        entry: UP,
+        shift: 79,
+        cursor: 0,
+        named: Named::All,
+    },
+    Case {
+        function: ONE_TALL_LINE,
+        control: ON,
+        entry: UP_SHIFTED,
+        shift: 1,
+        cursor: 39,
+        named: Named::Middle,
+    },
+    Case {
+        function: TWO_LINES,
+        control: BOTH,
+        entry: DOWN_SHIFTED,
+        shift: 39,
+        cursor: 79,
+        named: Named::EverySecond,
+    },
+    Case {
+        function: TWO_LINES,
+        control: OFF,
+        entry: UP,
+        shift: 0,
+        cursor: 40,
+        named: Named::Edges,
+    },
+    Case {
+        function: TWO_LINES,
+        control: BLINK,
+        entry: UP_SHIFTED,
+        shift: 20,
+        cursor: 41,
+        named: Named::Pairs,
+    },
+    Case {
+        function: ONE_LINE,
+        control: CURSOR,
+        entry: DOWN,
+        shift: 40,
+        cursor: 78,
+        named: Named::Only(100),
+    },
+    Case {
+        function: TWO_LINES,
+        control: ON,
+        entry: DOWN_SHIFTED,
+        shift: 2,
+        cursor: 40,
+        named: Named::Only(40),
+    },
+];

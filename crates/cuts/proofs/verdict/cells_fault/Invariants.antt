@@ -1,9 +1,0 @@
--- `cuts::verdict::cells_fault` is safe and ends: the measure is the cells that are left.
-use Rattle.std.proofs.Common.{◌-◌, ◌≤◌}
-use Rattle.cuts.proofs.verdict.cells_fault.Given as goal
-
-abbrev pub invariant-loop-place : goal.invariant-loop-place
-invariant-loop-place l = l.place ≤ 144
-
-abbrev pub decreases-loop-place : goal.decreases-loop-place
-decreases-loop-place l = 144 - l.place
