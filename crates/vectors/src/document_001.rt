@@ -1,11 +1,9 @@
 // The examples of document 001, which prints no waits: each is the time that document 01 gives the transfer before. The text
 // of the document has lost the drawings of 3.2.1 from step 9 on, of 3.2.2 before step 9, of 3.2.3 and of 1.7.6.1; there the
 // words beside them are followed.
-use crate::example::play;
-use crate::report::Tally;
 
 // Steps 1 to 25. Step 7 stands for the letters between.
-const ONE_LINE: [u8; 2340] = *b"\
+const ONE_LINE: &str = "\
 = document 001, 3.2.1: 16 characters x 1 line, using CG RAM
  1 P             L |                | no cursor
  2 I 30    10000 L |                | no cursor
@@ -54,7 +52,7 @@ const ONE_LINE: [u8; 2340] = *b"\
 ";
 
 // Steps 1 to 15. Steps 7 and 12 stand for the letters between.
-const TWO_LINES: [u8; 3085] = *b"\
+const TWO_LINES: &str = "\
 = document 001, 3.2.2: 16 characters x 2 lines
  1 P             T |                |                | no cursor
  2 I 38    10000 T |                |                | no cursor
@@ -105,7 +103,7 @@ const TWO_LINES: [u8; 3085] = *b"\
 ";
 
 // Steps 1 to 6. Each byte from step 3 on is two halves.
-const FOUR_BITS: [u8; 528] = *b"\
+const FOUR_BITS: &str = "\
 = document 001, 3.2.3: 16 characters x 2 lines, 4-bit interface
  1 P             T |                |                | no cursor
  2 I 20    10000 T |                |                | no cursor
@@ -118,7 +116,7 @@ const FOUR_BITS: [u8; 528] = *b"\
 
 // Not shifted, after one left shift and after one right shift: "the display window is incremented or decremented through
 // the entire 80 byte DD RAM".
-const SHIFTED_LINE: [u8; 243] = *b"\
+const SHIFTED_LINE: &str = "\
 = document 001, 1.7.6.1: display shift with one line
    P
    I 30    10000
@@ -131,7 +129,7 @@ const SHIFTED_LINE: [u8; 243] = *b"\
 ";
 
 // The same with two lines: the table of 1.7.6.3, and the two that 1.7.6.2 prints for the halves of a divided line.
-const SHIFTED_LINES: [u8; 339] = *b"\
+const SHIFTED_LINES: &str = "\
 = document 001, 1.7.6.3 and 1.7.6.2: display shift with two lines of 8
    P
    I 38    10000
@@ -143,15 +141,5 @@ const SHIFTED_LINES: [u8; 339] = *b"\
  3 I 1C     1640 B 27 00 01 02 03 04 05 06 | 67 40 41 42 43 44 45 46
 ";
 
-// Section 3.2, "Examples of Instructions".
-fn play_steps(out: &mut [u8], shapes: &[u8; 768], tally: Tally) -> Tally {
-    let line = play(out, shapes, &ONE_LINE, tally);
-    let lines = play(out, shapes, &TWO_LINES, line);
-    play(out, shapes, &FOUR_BITS, lines)
-}
-
-pub fn play_examples(out: &mut [u8], shapes: &[u8; 768], tally: Tally) -> Tally {
-    let stepped = play_steps(out, shapes, tally);
-    let line = play(out, shapes, &SHIFTED_LINE, stepped);
-    play(out, shapes, &SHIFTED_LINES, line)
-}
+// Section 3.2, "Examples of Instructions", and section 1.7.6.
+pub const EXAMPLES: [&str; 5] = [ONE_LINE, TWO_LINES, FOUR_BITS, SHIFTED_LINE, SHIFTED_LINES];

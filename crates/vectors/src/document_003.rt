@@ -1,9 +1,7 @@
 // The examples of document 003. Where its tables have dots between the columns, the addresses go on in order.
-use crate::example::play;
-use crate::report::Tally;
 
 // The three tables: not shifted, after one left shift, after one right shift.
-const SHIFTED_LINES: [u8; 323] = *b"\
+const SHIFTED_LINES: &str = "\
 = document 003, 4.4: display shift with two lines of 8
    P
    I 38    10000
@@ -16,7 +14,7 @@ const SHIFTED_LINES: [u8; 323] = *b"\
 ";
 
 // The letter of table 4.2, written by the five steps.
-const PATTERN_STEPS: [u8; 453] = *b"\
+const PATTERN_STEPS: &str = "\
 = document 003, 4.6, steps A to E: a pattern for code 01h
    P
    I 38    10000
@@ -36,7 +34,7 @@ const PATTERN_STEPS: [u8; 453] = *b"\
 ";
 
 // Note 4: the first pattern is selected by 00h or 08h.
-const PATTERN_TABLE: [u8; 746] = *b"\
+const PATTERN_TABLE: &str = "\
 = document 003, table 4.2: patterns 1 and 8
    P
    I 38    10000
@@ -69,7 +67,7 @@ const PATTERN_TABLE: [u8; 746] = *b"\
 ";
 
 // N=1, F=0; D=C=1, B=0; Clear; I/D=1, S=0.
-const FOUR_BIT_START: [u8; 302] = *b"\
+const FOUR_BIT_START: &str = "\
 = document 003, 5.2.2: software initialization, 4 bits
    P
  1 I 20    30000
@@ -81,9 +79,4 @@ const FOUR_BIT_START: [u8; 302] = *b"\
 # prints 1.52 ms; document 01 has 1,640 us
 ";
 
-pub fn play_examples(out: &mut [u8], shapes: &[u8; 768], tally: Tally) -> Tally {
-    let shifted = play(out, shapes, &SHIFTED_LINES, tally);
-    let written = play(out, shapes, &PATTERN_STEPS, shifted);
-    let tabled = play(out, shapes, &PATTERN_TABLE, written);
-    play(out, shapes, &FOUR_BIT_START, tabled)
-}
+pub const EXAMPLES: [&str; 4] = [SHIFTED_LINES, PATTERN_STEPS, PATTERN_TABLE, FOUR_BIT_START];

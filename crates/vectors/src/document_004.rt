@@ -1,10 +1,8 @@
 // The examples of document 004. Its waits are 15 ms before the first transfer, 1.6 ms after 01h and 02h, and 40 us after all
 // else; for the 1.6 ms document 01 has 1,640.
-use crate::example::play;
-use crate::report::Tally;
 
 // "8 bit, 1 line": "an automatically incremented display with steady line cursor".
-const EIGHT_BITS: [u8; 277] = *b"\
+const EIGHT_BITS: &str = "\
 = document 004, display initialisation: 8 bits, 1 line
    P
  1 I 30    15000
@@ -17,7 +15,7 @@ const EIGHT_BITS: [u8; 277] = *b"\
 ";
 
 // "8 bit, 2 lines".
-const EIGHT_BITS_TWO_LINES: [u8; 295] = *b"\
+const EIGHT_BITS_TWO_LINES: &str = "\
 = document 004, display initialisation: 8 bits, 2 lines
    P
  1 I 38    15000
@@ -30,7 +28,7 @@ const EIGHT_BITS_TWO_LINES: [u8; 295] = *b"\
 ";
 
 // "4 bit, 1 line".
-const FOUR_BITS: [u8; 311] = *b"\
+const FOUR_BITS: &str = "\
 = document 004, display initialisation: 4 bits, 1 line
    P
  1 I 30    15000
@@ -45,7 +43,7 @@ const FOUR_BITS: [u8; 311] = *b"\
 ";
 
 // "For 2 lines change the repeated 20 code".
-const FOUR_BITS_TWO_LINES: [u8; 402] = *b"\
+const FOUR_BITS_TWO_LINES: &str = "\
 = document 004, display initialisation: 4 bits, 2 lines
    P
  1 I 30    15000
@@ -61,7 +59,7 @@ const FOUR_BITS_TWO_LINES: [u8; 402] = *b"\
 ";
 
 // No half waits. "8 bit, 2 lines" follows.
-const FROM_WIDTH_FOUR: [u8; 491] = *b"\
+const FROM_WIDTH_FOUR: &str = "\
 = document 004, reset function: function set three times, left at width 4
    P
    I 20    10000
@@ -79,7 +77,7 @@ const FROM_WIDTH_FOUR: [u8; 491] = *b"\
 ";
 
 // Half a data write waits, and the first 30h completes it. "8 bit, 2 lines" follows.
-const FROM_DATA_HALF: [u8; 475] = *b"\
+const FROM_DATA_HALF: &str = "\
 = document 004, reset function: function set three times, left with half a data write
    P
    I 20    10000
@@ -97,7 +95,7 @@ const FROM_DATA_HALF: [u8; 475] = *b"\
 ";
 
 // Half an instruction waits, 0h, and the first 30h makes it Home. "4 bit, 2 lines" goes on from its fourth byte.
-const FROM_INSTRUCTION_HALF: [u8; 553] = *b"\
+const FROM_INSTRUCTION_HALF: &str = "\
 = document 004, reset function: function set three times, left with half an instruction
    P
    I 20    10000
@@ -115,7 +113,7 @@ const FROM_INSTRUCTION_HALF: [u8; 553] = *b"\
 ";
 
 // The worked example, the display's column row by row.
-const PATTERNS: [u8; 1011] = *b"\
+const PATTERNS: &str = "\
 = document 004, programming CG RAM
    P
    I 38    15000
@@ -143,7 +141,7 @@ const PATTERNS: [u8; 1011] = *b"\
 ";
 
 // Table 2, and its note on the codes that select a pattern.
-const PATTERN_TABLE: [u8; 697] = *b"\
+const PATTERN_TABLE: &str = "\
 = document 004, table 2: pattern examples 1 and 2
    P
    I 38    15000
@@ -173,24 +171,16 @@ const PATTERN_TABLE: [u8; 697] = *b"\
  2 D 01       40 1 *...* .*.*. ***** ..*.. ***** ..*.. ..*.. .....
 ";
 
-// The four sequences from power on.
-fn play_starts(out: &mut [u8], shapes: &[u8; 768], tally: Tally) -> Tally {
-    let eight = play(out, shapes, &EIGHT_BITS, tally);
-    let eight_two = play(out, shapes, &EIGHT_BITS_TWO_LINES, eight);
-    let four = play(out, shapes, &FOUR_BITS, eight_two);
-    play(out, shapes, &FOUR_BITS_TWO_LINES, four)
-}
-
-// "The function set instruction, sent three times, will always select the 8-bit wide interface mode."
-fn play_starts_anew(out: &mut [u8], shapes: &[u8; 768], tally: Tally) -> Tally {
-    let whole = play(out, shapes, &FROM_WIDTH_FOUR, tally);
-    let data = play(out, shapes, &FROM_DATA_HALF, whole);
-    play(out, shapes, &FROM_INSTRUCTION_HALF, data)
-}
-
-pub fn play_examples(out: &mut [u8], shapes: &[u8; 768], tally: Tally) -> Tally {
-    let started = play_starts(out, shapes, tally);
-    let anew = play_starts_anew(out, shapes, started);
-    let written = play(out, shapes, &PATTERNS, anew);
-    play(out, shapes, &PATTERN_TABLE, written)
-}
+// The four sequences from power on; "The function set instruction, sent three times, will always select the 8-bit wide interface
+// mode."; and the patterns.
+pub const EXAMPLES: [&str; 9] = [
+    EIGHT_BITS,
+    EIGHT_BITS_TWO_LINES,
+    FOUR_BITS,
+    FOUR_BITS_TWO_LINES,
+    FROM_WIDTH_FOUR,
+    FROM_DATA_HALF,
+    FROM_INSTRUCTION_HALF,
+    PATTERNS,
+    PATTERN_TABLE,
+];

@@ -1,114 +1,82 @@
 // The report: every row of an example, with what was seen after it and whether the manual prints the same.
-ghost use Rattle.std.specs.Prelude.{◌≤◌};
+use crate::bench::Bench;
+use crate::display::{Seen, see};
+use crate::row::{Row, Step};
+use crate::shapes::Letters;
+use crate::{document_001, document_003, document_004};
+use lines::Page;
+use std::fmt;
+use std::fmt::Write;
 
-use crate::row::{PRINTED, VIEW, byte_at, is_numbered};
-use lines::{put_byte, put_number, put_text};
-
-// The length of the report so far, the steps played, and those that differ from the manual. The sums wrap rather than ask
-// that they fit.
-#[derive(Clone, Copy)]
-pub struct Tally {
-    pub at: usize,
-    pub steps: u64,
-    pub differ: u64,
+// The lines so far, for which the page has room even where every row differs; the steps played, and those that differ from the
+// manual. The sums wrap rather than ask that they fit.
+#[derive(Drop)]
+pub struct Report {
+    pub page: Page<65536>,
+    letters: Letters,
+    steps: u64,
+    differ: u64,
 }
 
-fn move_to(tally: Tally, at: usize) -> Tally {
-    let mut next = tally;
-    next.at = at;
-    next
-}
-
-// Whether the manual prints what was seen. Both end in blanks. A row that prints more than can be seen is wrong.
-fn is_printed(row: &[u8], seen: &[u8; 64]) -> bool {
-    if PRINTED + 64 < row.len() {
-        return false;
-    }
-    let mut i = 0;
-    while i < 64 {
-        if byte_at(row, PRINTED + i) != seen[i] {
-            return false;
+impl Report {
+    pub fn new() -> Report {
+        Report {
+            page: Page::new(),
+            letters: Letters::new(),
+            steps: 0,
+            differ: 0,
         }
-        i += 1;
     }
-    true
-}
 
-// So many bytes of a row, from this column on.
-fn put_part(out: &mut [u8], at: usize, row: &[u8], from: usize, count: usize) -> usize
-    requires { (from ≤ 19) × (count ≤ 64) }
-{
-    let mut next = at;
-    let mut i = 0;
-    while i < count {
-        next = put_byte(out, next, byte_at(row, from + i));
-        i += 1;
+    // A row without a number prepares the panel and is no step of the manual's; it counts only where it went wrong.
+    fn count(&mut self, is_numbered: bool, is_fine: bool) {
+        self.steps = self.steps.wrapping_add(u64::from(is_numbered));
+        self.differ = self.differ.wrapping_add(u64::from(!is_fine));
     }
-    next
-}
 
-// A heading, with an empty line before it.
-pub fn put_heading(out: &mut [u8], row: &[u8], tally: Tally) -> Tally {
-    let parted = put_byte(out, tally.at, b'\n');
-    let named = put_text(out, parted, row);
-    move_to(tally, put_byte(out, named, b'\n'))
-}
-
-// A note, under the columns of the step that it speaks of.
-pub fn put_note(out: &mut [u8], row: &[u8], tally: Tally) -> Tally {
-    let indented = put_text(out, tally.at, b"   ");
-    let noted = put_text(out, indented, row);
-    move_to(tally, put_byte(out, noted, b'\n'))
-}
-
-// What the manual prints, under a step that differs.
-fn put_printed(out: &mut [u8], at: usize, row: &[u8]) -> usize {
-    let named = put_text(out, at, b"      the manual:");
-    let printed = put_part(out, named, row, PRINTED, 64);
-    put_byte(out, printed, b'\n')
-}
-
-fn put_verdict(out: &mut [u8], at: usize, row: &[u8], refused: bool, same: bool) -> usize {
-    if refused {
-        return put_text(out, at, b" differs: refused\n");
+    // A step is sent, looked at and told: its own fields, what was seen, and whether the manual prints it. Both end in blanks.
+    fn play_step(&mut self, bench: &mut Bench, step: &Step) -> fmt::Result {
+        let played = bench.play(step.action);
+        let mut seen = Seen::new();
+        if let Some(view) = step.view {
+            see(&mut seen, &self.letters, bench, view)?;
+        }
+        let seen = str::from_utf8(seen.text()).unwrap_or("");
+        let is_same = seen.trim_end() == step.printed.trim_end();
+        self.count(step.is_numbered, played.is_ok() && is_same);
+        write!(self.page, "{:<17}{seen:<64}", step.fields)?;
+        match played {
+            Err(_) => writeln!(self.page, " differs: refused"),
+            Ok(()) if is_same => writeln!(self.page, " ok"),
+            Ok(()) => writeln!(self.page, " differs\n      the manual:{:<64}", step.printed),
+        }
     }
-    if same {
-        return put_text(out, at, b" ok\n");
+
+    // Every row of an example, which has a controller of its own. An empty line stands before a heading, and a note under the
+    // columns of the step that it speaks of.
+    fn play(&mut self, example: &str) -> fmt::Result {
+        let mut bench = Bench::new();
+        for row in example.lines() {
+            match Row::from(row) {
+                Row::Heading(text) => writeln!(self.page, "\n{text}")?,
+                Row::Note(text) => writeln!(self.page, "   {text}")?,
+                Row::Step(step) => self.play_step(&mut bench, &step)?,
+            }
+        }
+        Ok(())
     }
-    let told = put_text(out, at, b" differs\n");
-    put_printed(out, told, row)
-}
 
-fn one_if(counted: bool) -> u64 {
-    if counted {
-        return 1;
+    // Every document's examples, in their order, and what was counted.
+    pub fn play_all(&mut self) -> fmt::Result {
+        for example in document_001::EXAMPLES {
+            self.play(example)?;
+        }
+        for example in document_003::EXAMPLES {
+            self.play(example)?;
+        }
+        for example in document_004::EXAMPLES {
+            self.play(example)?;
+        }
+        writeln!(self.page, "\n{} steps, {} differ", self.steps, self.differ)
     }
-    0
-}
-
-// A row without a number prepares the panel and is no step of the manual's; it counts only where it went wrong.
-fn count(tally: Tally, at: usize, numbered: bool, fine: bool) -> Tally {
-    Tally {
-        at,
-        steps: std::num::wrapping_add_u64(tally.steps, one_if(numbered)),
-        differ: std::num::wrapping_add_u64(tally.differ, one_if(!fine)),
-    }
-}
-
-// The line of a step: the row's own fields, what was seen, and the verdict.
-pub fn put_step(out: &mut [u8], row: &[u8], seen: &[u8; 64], refused: bool, tally: Tally) -> Tally {
-    let same = is_printed(row, seen);
-    let sent = put_part(out, tally.at, row, 0, VIEW);
-    let shown = put_text(out, sent, seen);
-    let told = put_verdict(out, shown, row, refused, same);
-    count(tally, told, is_numbered(row), same && !refused)
-}
-
-// The last line.
-pub fn put_total(out: &mut [u8], tally: Tally) -> Tally {
-    let parted = put_byte(out, tally.at, b'\n');
-    let steps = put_number(out, parted, tally.steps);
-    let named = put_text(out, steps, b" steps, ");
-    let differ = put_number(out, named, tally.differ);
-    move_to(tally, put_text(out, differ, b" differ\n"))
 }

@@ -9,88 +9,110 @@
 //
 // the manual's number, or none where the panel is only prepared; the kind, `I` an instruction write, `D` a data write, `P`
 // power on, `F` the filling of the display cells, `-` nothing; the byte, or at width 4 its two halves as the bus carries
-// them; the wait in microseconds; how the display is looked at (module `display`); and what the manual prints.
-ghost use Rattle.std.specs.Prelude.{◌<◌, ◌≤◌, length};
+// them; the wait in microseconds; how the display is looked at; and what the manual prints. The ways of looking:
+//
+//     L, T     the letters of line 1, or of both lines, and where the cursor is
+//     A, B     the addresses that stand at the first eight positions of line 1, or of both lines
+//     1, 2     the dots of the first or the second position, row by row
+//     R        the record
 
-use lines::worth_of;
+// A row, by its first byte.
+#[derive(Clone, Copy)]
+pub enum Row<'a> {
+    Heading(&'a str),
+    Note(&'a str),
+    Step(Step<'a>),
+}
 
-// Where the fields of a step begin.
-pub const KIND: usize = 3;
+// A step: its fields up to the wait, as they are written; whether it is one of the manual's; what is done, which a slip in the
+// table leaves open; how the display is looked at, if it is; and what the manual prints.
+#[derive(Clone, Copy)]
+pub struct Step<'a> {
+    pub fields: &'a str,
+    pub is_numbered: bool,
+    pub action: Option<Action>,
+    pub view: Option<View>,
+    pub printed: &'a str,
+}
 
-pub const VIEW: usize = 17;
+// What a step does to the panel.
+#[derive(Clone, Copy)]
+pub enum Action {
+    PowerOn,
+    // A byte, or its two halves. The kind is 0 for an instruction write and 1 for a data write, as `transfer` takes it.
+    Send {
+        kind: u8,
+        byte: u8,
+        second: Option<u8>,
+        wait: u32,
+    },
+    Fill,
+    Nothing,
+}
 
-pub const PRINTED: usize = 19;
+// What is looked at, the letters or the addresses in so many lines.
+#[derive(Clone, Copy)]
+pub enum View {
+    Letters { lines: usize },
+    Addresses { lines: usize },
+    First,
+    Second,
+    Record,
+}
 
-// The end of the row that begins here: its newline, or the end of the text.
-pub fn row_end(text: &[u8], from: usize) -> usize
-    requires { from ≤ length text.now }
-    ensures { (from ≤ result) × (result ≤ length text.now) }
-{
-    let mut at = from;
-    while at < text.len() {
-        if text[at] == b'\n' {
-            return at;
+impl<'a> From<&'a str> for Row<'a> {
+    fn from(row: &'a str) -> Row<'a> {
+        match row.as_bytes() {
+            [b'=', ..] => Row::Heading(row),
+            [b'#', ..] => Row::Note(row),
+            _ => Row::Step(Step {
+                fields: row.get(..17).unwrap_or(row),
+                is_numbered: !field(row, 0, 2).is_empty(),
+                action: action_of(row),
+                view: view_of(row),
+                printed: row.get(19..).unwrap_or(""),
+            }),
         }
-        at += 1;
     }
-    at
 }
 
-// Where the next row begins, or the text ends: after the newline at this end of a row.
-pub fn row_after(text: &[u8], from: usize, end: usize) -> usize
-    requires { (from < length text.now) × (from ≤ end) × (end ≤ length text.now) }
-    ensures { (from < result) × (result ≤ length text.now) }
-{
-    if end < text.len() {
-        return end + 1;
+// A field without the blanks around it. A row may end early: past its end there are blanks.
+fn field(row: &str, from: usize, end: usize) -> &str {
+    row.get(from..end).unwrap_or("").trim()
+}
+
+// What the kind in a row says.
+fn action_of(row: &str) -> Option<Action> {
+    match field(row, 3, 4) {
+        "P" => Some(Action::PowerOn),
+        "I" => send_of(0, row),
+        "D" => send_of(1, row),
+        "F" => Some(Action::Fill),
+        "-" => Some(Action::Nothing),
+        _ => None,
     }
-    end
 }
 
-// A byte of a row. A row may end early: past its end there are blanks.
-pub fn byte_at(row: &[u8], at: usize) -> u8 {
-    if row.len() <= at {
-        return b' ';
+// The transfer of a row: its byte, or its first half and its second, and the microseconds since the transfer before.
+fn send_of(kind: u8, row: &str) -> Option<Action> {
+    Some(Action::Send {
+        kind,
+        byte: u8::from_str_radix(field(row, 5, 7), 16).ok()?,
+        second: u8::from_str_radix(field(row, 8, 10), 16).ok(),
+        wait: field(row, 11, 16).parse().ok()?,
+    })
+}
+
+// The way of looking, by its letter.
+fn view_of(row: &str) -> Option<View> {
+    match field(row, 17, 18) {
+        "L" => Some(View::Letters { lines: 1 }),
+        "T" => Some(View::Letters { lines: 2 }),
+        "A" => Some(View::Addresses { lines: 1 }),
+        "B" => Some(View::Addresses { lines: 2 }),
+        "1" => Some(View::First),
+        "2" => Some(View::Second),
+        "R" => Some(View::Record),
+        _ => None,
     }
-    row[at]
-}
-
-pub fn is_numbered(row: &[u8]) -> bool {
-    byte_at(row, 1) != b' '
-}
-
-// A digit's value. A blank, which is worth 16, counts as 0.
-fn digit_at(row: &[u8], at: usize) -> u8
-    ensures { result < 16 }
-{
-    worth_of(byte_at(row, at)) % 16
-}
-
-fn wide_digit_at(row: &[u8], at: usize) -> u32
-    ensures { result < 16 }
-{
-    digit_at(row, at) as u32
-}
-
-// The byte that is sent, or its first half.
-pub fn first_byte(row: &[u8]) -> u8 {
-    digit_at(row, 5) * 16 + digit_at(row, 6)
-}
-
-// The second half.
-pub fn second_byte(row: &[u8]) -> u8 {
-    digit_at(row, 8) * 16 + digit_at(row, 9)
-}
-
-pub fn is_halved(row: &[u8]) -> bool {
-    byte_at(row, 8) != b' '
-}
-
-// The microseconds between the transfer before and this one.
-pub fn wait_of(row: &[u8]) -> u32 {
-    wide_digit_at(row, 11) * 10_000
-        + wide_digit_at(row, 12) * 1_000
-        + wide_digit_at(row, 13) * 100
-        + wide_digit_at(row, 14) * 10
-        + wide_digit_at(row, 15)
 }
