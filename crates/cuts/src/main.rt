@@ -13,12 +13,11 @@ mod wishes;
 
 use report::Report;
 use std::process::ExitCode;
-use telling::{send, status_of};
+use telling::{heard, send, status_of};
 
 fn main(rt: HostRuntime) -> ExitCode {
-    let mut output = rt.stdout();
     let mut report = Report::new();
     // A page takes every text, so this does not fail.
     let _ = report.play_all();
-    status_of(send(&mut output, report.page.text()))
+    status_of(heard(send(&mut rt.stdout(), report.page.text())))
 }
