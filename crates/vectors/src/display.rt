@@ -2,7 +2,7 @@
 use crate::bench::Bench;
 use crate::record::see_record;
 use crate::row::View;
-use crate::shapes::{Letters, Shape, glass_of};
+use crate::shapes::{Letters, Shape, cursor_on, glass_of};
 use lines::Page;
 use std::fmt;
 use std::fmt::Write;
@@ -10,21 +10,20 @@ use std::fmt::Write;
 // What is seen: what does not fit is left out.
 pub type Seen = Page<64>;
 
-// The letters of so many lines, ~ for a shape that is no letter's, and the cursor's line and column, counted from 1.
+// The letters of so many lines, ~ where the dots are no letter's, and the cursor's line and column, counted from 1.
 fn see_letters(
     seen: &mut Seen,
-    letters: &Letters,
-    glass: &[Shape; 32],
+    codes: &[Option<u8>; 32],
+    cursor: Option<usize>,
     lines: usize,
 ) -> fmt::Result {
-    for line in glass.chunks_exact(16).take(lines) {
+    for line in codes.chunks_exact(16).take(lines) {
         seen.put_byte(b'|');
-        for shape in line {
-            seen.put_byte(letters.code_of(shape).unwrap_or(b'~'));
+        for code in line {
+            seen.put_byte(code.unwrap_or(b'~'));
         }
     }
-    // No letter has a dot in the eighth row.
-    match glass.iter().position(|shape| shape[7] == 0b11111) {
+    match cursor {
         Some(at) => write!(seen, "| cursor {}:{:02}", at / 16 + 1, at % 16 + 1),
         None => write!(seen, "| no cursor"),
     }
@@ -41,19 +40,13 @@ fn address_of(n: bool, code: Option<u8>) -> u8 {
 }
 
 // The addresses at the first eight positions of so many lines, a blank after each.
-fn see_addresses(
-    seen: &mut Seen,
-    letters: &Letters,
-    glass: &[Shape; 32],
-    n: bool,
-    lines: usize,
-) -> fmt::Result {
-    for (number, line) in glass.chunks_exact(16).take(lines).enumerate() {
+fn see_addresses(seen: &mut Seen, codes: &[Option<u8>; 32], n: bool, lines: usize) -> fmt::Result {
+    for (number, line) in codes.chunks_exact(16).take(lines).enumerate() {
         if 0 < number {
             write!(seen, "| ")?;
         }
-        for shape in line.iter().take(8) {
-            let address = address_of(n, letters.code_of(shape));
+        for code in line.iter().take(8) {
+            let address = address_of(n, *code);
             write!(seen, "{address:02X} ")?;
         }
     }
@@ -61,7 +54,7 @@ fn see_addresses(
 }
 
 // The rows of a position, each five dots, bit 4 leftmost, and a blank.
-fn see_dots(seen: &mut Seen, shape: &Shape) -> fmt::Result {
+fn see_dots(seen: &mut Seen, shape: Shape) -> fmt::Result {
     for row in shape {
         for dot in [16, 8, 4, 2, 1] {
             seen.put_byte(if row & dot == 0 { b'.' } else { b'*' });
@@ -74,16 +67,11 @@ fn see_dots(seen: &mut Seen, shape: &Shape) -> fmt::Result {
 // What is seen of a controller in this way of looking.
 pub fn see(seen: &mut Seen, letters: &Letters, bench: &Bench, view: View) -> fmt::Result {
     let glass = glass_of(bench);
-    let [first, second, ..] = &glass;
+    let codes = glass.map(|shape| letters.code_of(shape));
+    let [first, second, ..] = glass;
     match view {
-        View::Letters { lines } => see_letters(seen, letters, &glass, lines),
-        View::Addresses { lines } => see_addresses(
-            seen,
-            letters,
-            &glass,
-            bench.rec.function.n,
-            lines,
-        ),
+        View::Letters { lines } => see_letters(seen, &codes, cursor_on(&glass), lines),
+        View::Addresses { lines } => see_addresses(seen, &codes, bench.rec.function.n, lines),
         View::First => see_dots(seen, first),
         View::Second => see_dots(seen, second),
         View::Record => see_record(seen, bench.rec),

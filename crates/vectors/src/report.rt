@@ -68,13 +68,10 @@ impl Report {
 
     // Every document's examples, in their order, and what was counted.
     pub fn play_all(&mut self) -> fmt::Result {
-        for example in document_001::EXAMPLES {
-            self.play(example)?;
-        }
-        for example in document_003::EXAMPLES {
-            self.play(example)?;
-        }
-        for example in document_004::EXAMPLES {
+        let first = document_001::EXAMPLES.iter();
+        let third = document_003::EXAMPLES.iter();
+        let fourth = document_004::EXAMPLES.iter();
+        for example in first.chain(third).chain(fourth) {
             self.play(example)?;
         }
         writeln!(self.page, "\n{} steps, {} differ", self.steps, self.differ)
