@@ -1,19 +1,24 @@
 -- The answers of a drawing: those of the picture beneath, which always has room, and then 11.
 -- Assumes nothing.
-use mathlib.Core.Bool.{Bool, true, false, cond}
+use mathlib.Core.Bool.{Bool, true, false, cond, not}
 use mathlib.Core.List.{List}
 use mathlib.Core.Path.{◌≡◌, refl, sym, ap, ◌∙◌}
 use Prim.Native.Nat.{ℕ}
+use lib.Dec.{ltb}
 use lib.ListN.{length}
 use Rattle.std.specs.Prelude.{Result, Ok, Err, ⊤}
 use Rattle.controller.specs.declared.answers.Answer.{Answer}
-use Rattle.controller.specs.declared.answers.Answer.TheVariants.{Done, OutputShort}
+use Rattle.controller.specs.declared.answers.Answer.TheVariants.{BadSize, Done, NotWhole, OutputShort, Unsound}
 use Rattle.controller.specs.declared.«record».Record.{Record}
 use Rattle.controller.specs.Answers.{is_done, is_refusal, number_of}
+use Rattle.controller.specs.Bus.{whole}
+use Rattle.controller.specs.Record.{sound}
 use Rattle.controller.proofs.Laws.Answers.{done_is}
+use Rattle.controller.proofs.Laws.Choice.{cond-elim}
+use Rattle.dots.specs.Panel.{fits_glass}
 use Rattle.dots.specs.declared.panel.Profile.{Profile}
 use Rattle.dots.specs.Geometry.{picture_length, picture_room}
-use Rattle.dots.specs.Picture.{answer_of, answered, result_of as picture_result}
+use Rattle.dots.specs.Picture.{answer_for, answer_of, answered, result_of as picture_result}
 use Rattle.dots.proofs.Answers.{Passed, not_done, passed, refused_alike, room_is, told_back}
 use Rattle.dots.proofs.Panels.{panel_columns, panel_lines, picture_fits}
 use Rattle.dots.proofs.Places.{height_most}
@@ -76,3 +81,15 @@ module _ (form : Form) (rec : Record) (mem : List ℕ) (profile : Profile) (lit 
         told = simp same taken.told;
         drawn = record { told = told; number = ap (λ (w : Written). number_of w.answer) told; out = simp same taken.out };
       }
+
+-- what is told of a drawing is all that it comes to
+pub told_whole : (form : Form) (rec : Record) (mem : List ℕ) (profile : Profile) (room long : ℕ)
+    → written_in (result_of (telling (answering form rec mem profile room) long)) ≡ telling (answering form rec mem profile room) long
+unfolding answer_for is_refusal
+told_whole form rec mem profile room long =
+    let P : Answer → Type 0 = λ answer. written_in (result_of (telling answer long)) ≡ telling answer long in
+    let short = ltb room (drawn_length form rec profile) in
+    let fits = cond (not (fits_glass profile)) BadSize (cond short OutputShort Done) in
+    cond-elim P (not (sound rec)) Unsound (cond (not (whole mem)) NotWhole fits) (λ _. refl)
+    (λ _. cond-elim P (not (whole mem)) NotWhole fits (λ _. refl)
+    (λ _. cond-elim P (not (fits_glass profile)) BadSize (cond short OutputShort Done) (λ _. refl) (λ _. room_told short long)))
