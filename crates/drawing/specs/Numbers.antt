@@ -1,6 +1,6 @@
 -- Numbers in fields of a fixed width.
 -- Assumes nothing.
-use Rattle.std.specs.Prelude.{cond, List, [], ◌∷◌, ℕ, ◌/◌, ◌%◌, ltb}
+use Rattle.std.specs.Prelude.{cond, List, [], ◌∷◌, ℕ, zero, suc, ◌/◌, ◌%◌, ◌^◌, ltb}
 use Prim.Native.Char.{code}
 use Rattle.lines.specs.Digits.{digit}
 
@@ -27,3 +27,13 @@ four_digits number = digit (number / 1000 % 10) ∷ digit (number / 100 % 10) �
 -- A number in five places, blanks before it.
 abbrev pub five_wide : ℕ → List ℕ
 five_wide number = padded number 10000 ∷ four_wide number
+
+-- A place of a number with so many places after it: the last is always a digit, and any other this byte where the number is smaller.
+abbrev pub place_of : ℕ → ℕ → ℕ → ℕ
+place_of blank number zero = digit (number % 10)
+place_of blank number (suc after) = cond (ltb number (10 ^ suc after)) blank (digit (number / 10 ^ suc after % 10))
+
+-- So many places of a number.
+abbrev pub places : ℕ → ℕ → ℕ → List ℕ
+places blank zero number = []
+places blank (suc after) number = place_of blank number after ∷ places blank after number

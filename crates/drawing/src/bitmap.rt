@@ -4,15 +4,16 @@ ghost use Rattle.std.specs.Prelude.{◌≡◌, ◌≤◌};
 ghost use Rattle.drawing.specs.Bitmap.{bitmap_head, head_for, pixels_at};
 
 use crate::glass::Glass;
-use crate::numbers::four_digits;
+use crate::numbers::places;
 
 // `P4`, and the width and the height in pixels.
+#[tactic(auto, using(crate::proofs::Laws::Numbers::four_zeros))]
 fn head_for(width: usize, height: usize) -> [u8; 13]
     ensures { result ≡ head_for width height }
 {
     let mut head = *b"P4\n0000 0000\n";
-    head[8..12].copy_from_slice(&four_digits(height));
-    head[3..7].copy_from_slice(&four_digits(width));
+    head[8..12].copy_from_slice(&places::<4>(height, b'0'));
+    head[3..7].copy_from_slice(&places::<4>(width, b'0'));
     head
 }
 

@@ -8,16 +8,17 @@ ghost use Rattle.drawing.specs.Numbers.{two_wide};
 use crate::glass::Glass;
 use crate::grid::byte_in;
 use crate::letters::letter_for;
-use crate::numbers::two_wide;
+use crate::numbers::places;
 use dots::is_shown;
 use lines::hex_digit;
 
 // The name of a memory, and a cell of it.
+#[tactic(auto, unfolding(crate::specs::Numbers::padded))]
 fn label(name: &[u8; 8], cell: usize) -> [u8; 10]
     ensures { result ≡ name.now ++ two_wide cell }
 {
     let mut label = [b' '; 10];
-    label[8..].copy_from_slice(&two_wide(cell));
+    label[8..].copy_from_slice(&places::<2>(cell, b' '));
     label[..8].copy_from_slice(name);
     label
 }

@@ -1,49 +1,33 @@
 // Numbers in fields of a fixed width.
-ghost use Rattle.std.specs.Prelude.{◌≡◌, ◌≤◌};
-ghost use Rattle.drawing.specs.Numbers.{four_digits, four_wide, padded, two_wide};
+ghost use Rattle.std.specs.Prelude.{◌≡◌, ◌≤◌, ◌<◌};
+ghost use Rattle.drawing.specs.Numbers.{place_of, places};
 
 use lines::hex_digit;
 
-// The digit of a number at this power of ten; a blank where the number is smaller.
-#[tactic(auto, unfolding(crate::specs::Numbers::padded))]
-pub fn padded_digit(number: usize, power: usize) -> u8
-    requires { 1 ≤ power }
-    ensures { result ≡ padded number power }
+// The place of a number that has so many places after it: the last is always a digit, any other this byte where the number is
+// smaller.
+fn place_of(number: usize, after: usize, blank: u8) -> u8
+    requires { after < 5 }
+    ensures { result ≡ place_of blank number after }
 {
-    if number < power {
-        b' '
+    let power = 10usize.pow(after as u32);
+    if after == 0 {
+        hex_digit((number % 10) as u8)
+    } else if number < power {
+        blank
     } else {
         hex_digit((number / power % 10) as u8)
     }
 }
 
-// A number in two places.
-pub fn two_wide(number: usize) -> [u8; 2]
-    ensures { result ≡ two_wide number }
+// A number's last N places, with this byte before its first digit.
+pub fn places<const N: usize>(number: usize, blank: u8) -> [u8; N]
+    requires { N ≤ 5 }
+    ensures { result ≡ places blank N number }
 {
-    [padded_digit(number, 10), hex_digit((number % 10) as u8)]
-}
-
-// A number in four places.
-pub fn four_wide(number: usize) -> [u8; 4]
-    ensures { result ≡ four_wide number }
-{
-    [
-        padded_digit(number, 1000),
-        padded_digit(number, 100),
-        padded_digit(number, 10),
-        hex_digit((number % 10) as u8),
-    ]
-}
-
-// A number as four digits.
-pub fn four_digits(number: usize) -> [u8; 4]
-    ensures { result ≡ four_digits number }
-{
-    [
-        hex_digit((number / 1000 % 10) as u8),
-        hex_digit((number / 100 % 10) as u8),
-        hex_digit((number / 10 % 10) as u8),
-        hex_digit((number % 10) as u8),
-    ]
+    let mut text = [blank; N];
+    for (at, byte) in text.iter_mut().enumerate() {
+        *byte = place_of(number, N - 1 - at, blank);
+    }
+    text
 }

@@ -5,7 +5,7 @@ ghost use Rattle.drawing.specs.State.{memory_shown, moving_line, on_off, read_sh
 ghost use Rattle.drawing.specs.State.{width_shown, write_shown};
 
 use crate::grid::byte_in;
-use crate::numbers::{four_wide, padded_digit, two_wide};
+use crate::numbers::places;
 use controller::{Counter, Half, Record, address_set, cell_of};
 use lines::hex_digit;
 
@@ -75,6 +75,7 @@ fn bit_shown(bit: bool) -> u8
 }
 
 // The settings, and the oscillator.
+#[tactic(auto, unfolding(crate::specs::Numbers::padded))]
 fn settings_line(rec: Record) -> [u8; 66]
     ensures { result ≡ settings_line rec }
 {
@@ -86,7 +87,7 @@ fn settings_line(rec: Record) -> [u8; 66]
     text[43] = bit_shown(rec.control.b);
     text[50] = bit_shown(rec.entry.id);
     text[55] = bit_shown(rec.entry.s);
-    text[58..61].copy_from_slice(&four_wide(rec.frequency.khz as usize)[1..]);
+    text[58..61].copy_from_slice(&places::<3>(rec.frequency.khz as usize, b' '));
     text[31..34].copy_from_slice(&on_off(rec.control.d));
     text
 }
@@ -103,6 +104,7 @@ fn address_shown(n: bool, counter: Counter) -> u8
 }
 
 // The counter: its memory, its cell, and the cell's address.
+#[tactic(auto, unfolding(crate::specs::Numbers::padded))]
 fn counter_field(n: bool, counter: Counter) -> [u8; 36]
     ensures { result ≡ counter_field n counter }
 {
@@ -110,21 +112,20 @@ fn counter_field(n: bool, counter: Counter) -> [u8; 36]
     let mut text = *b"counter display cell  0, address 00h";
     text[33] = hex_digit(address / 16);
     text[34] = hex_digit(address % 16);
-    text[21..23].copy_from_slice(&two_wide(cell_of(counter) as usize));
+    text[21..23].copy_from_slice(&places::<2>(cell_of(counter) as usize, b' '));
     text[8..15].copy_from_slice(&memory_shown(counter));
     text
 }
 
 // The shift, the busy time and the half that waits.
+#[tactic(auto, unfolding(crate::specs::Numbers::padded))]
 fn last_fields(rec: Record) -> [u8; 34]
     ensures { result ≡ last_fields rec }
 {
-    let busy = rec.busy as usize;
     let mut text = *b"  shift  0  busy     0  half none\n";
-    text[17] = padded_digit(busy, 10_000);
     text[29..33].copy_from_slice(&half_shown(rec.half));
-    text[18..22].copy_from_slice(&four_wide(busy));
-    text[8..10].copy_from_slice(&two_wide(rec.shift as usize));
+    text[17..22].copy_from_slice(&places::<5>(rec.busy as usize, b' '));
+    text[8..10].copy_from_slice(&places::<2>(rec.shift as usize, b' '));
     text
 }
 

@@ -1,25 +1,12 @@
 -- Laws of the block characters: how large their numbers become.
 -- Assumes nothing.
-use mathlib.Core.Bool.{Bool, true, false}
-use mathlib.Core.List.{List}
 use Prim.Native.Nat.{ℕ, ◌+◌, ◌*◌, ◌/◌, ◌%◌, ◌≤◌, ◌<◌}
 use native.Mathlib.Nat.{mod-lt}
 use native.Mathlib.Omega.{arith}
 use Rattle.drawing.specs.declared.grid.Grid.{Grid}
-use Rattle.drawing.specs.Grid.{Small, is_lit, last_y}
-use Rattle.drawing.specs.Blocks.{blocks_length, blocks_width, pair_at, pair_of}
+use Rattle.drawing.specs.Grid.{Small, last_y}
+use Rattle.drawing.specs.Blocks.{blocks_length, blocks_width}
 use Rattle.drawing.proofs.Laws.Grid.{in_row, last_y_most, product}
-
--- two dots are a number up to 3
-pub pair_of_most : (left right : Bool) → pair_of left right ≤ 3
-pair_of_most true true = omega arith
-pair_of_most true false = omega arith
-pair_of_most false true = omega arith
-pair_of_most false false = omega arith
-
-pub pair_most : (dots : List ℕ) (grid : Grid) (x y : ℕ) → pair_at dots grid x y ≤ 3
-unfolding pair_at
-pair_most dots grid x y = pair_of_most (is_lit dots grid x y) (is_lit dots grid (x + 1) y)
 
 pub blocks_some : (grid : Grid) → 0 < blocks_width grid
 unfolding blocks_width

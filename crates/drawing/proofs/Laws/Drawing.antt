@@ -27,9 +27,6 @@ module _ (grid : Grid) (small : Small grid) where
   unfolding frame_length
   frame_most = frame_product
 
-  pub pixels_most : (last_x grid + 1) * ((last_y grid + 1) * 8) ≤ 94472
-  pixels_most = product (last_x grid + 1) ((last_y grid + 1) * 8) 241 392 (omega (arith, last_x_most grid small)) (omega (arith, last_y_most grid small))
-
   -- a place of the frame: its column and its row are small
   pub frame_column : (place : ℕ) → place % frame_width grid ≤ 255
   frame_column place = omega (arith, mod-lt place (width_some grid), width_most)
