@@ -7,8 +7,22 @@ use crate::glass::Glass;
 
 // The sixteen characters of four quarters, from none to all of them.
 const QUADRANTS: [u16; 16] = [
-    0x2002, 0x2597, 0x2596, 0x2584, 0x259D, 0x2590, 0x259E, 0x259F, 0x2598, 0x259A, 0x258C, 0x2599,
-    0x2580, 0x259C, 0x259B, 0x2588,
+    '\u{2002}' as u16,
+    '▗' as u16,
+    '▖' as u16,
+    '▄' as u16,
+    '▝' as u16,
+    '▐' as u16,
+    '▞' as u16,
+    '▟' as u16,
+    '▘' as u16,
+    '▚' as u16,
+    '▌' as u16,
+    '▙' as u16,
+    '▀' as u16,
+    '▜' as u16,
+    '▛' as u16,
+    '█' as u16,
 ];
 
 // One of the three bytes of a character.
@@ -76,7 +90,7 @@ impl Glass<'_> {
         } else if y == self.blocks_bottom() {
             lower
         } else {
-            0x2502
+            '│' as u16
         }
     }
 
@@ -87,7 +101,7 @@ impl Glass<'_> {
         ensures { result ≡ inner_char self.now.dots.now self.now.grid x y }
     {
         if y == 0 || y == self.blocks_bottom() {
-            0x2500
+            '─' as u16
         } else {
             self.block_at(x * 2 - 1, y * 2 - 1)
         }
@@ -100,9 +114,9 @@ impl Glass<'_> {
         ensures { result ≡ char_at self.now.dots.now self.now.grid x y }
     {
         if x == 0 {
-            self.side_char(0x250C, 0x2514, y)
+            self.side_char('┌' as u16, '└' as u16, y)
         } else if x == self.blocks_edge() {
-            self.side_char(0x2510, 0x2518, y)
+            self.side_char('┐' as u16, '┘' as u16, y)
         } else {
             self.inner_char(x, y)
         }
