@@ -5,7 +5,7 @@
 mod options;
 mod refusals;
 
-use controller::number;
+use controller::{is_done, number};
 use drawing::{Form, draw};
 use lines::{first, write_header, write_row};
 use options::{Options, read_options};
@@ -72,10 +72,18 @@ fn tell_end(rt: HostRuntime, place: Place, standing: Standing, text: &[u8]) -> R
     let mut head = [0u8; 20];
     let mut row = [0u8; 42];
     let line = standing.number;
-    write_header(&mut head);
-    let written = write_row(line, number(standing.answer), 0, standing.rec.busy, &mut row);
+    // Neither is refused, since both buffers are long enough.
+    let _ = write_header(&mut head);
+    let length = write_row(
+        line,
+        number(standing.answer),
+        0,
+        standing.rec.busy,
+        &mut row,
+    )
+    .unwrap_or(0);
     heard(write_at(rt, place, &head))?;
-    heard(write_at(rt, place, first(&row, written.length)))?;
+    heard(write_at(rt, place, first(&row, length)))?;
     tell_bad_line(&mut rt.stderr(), NAME, line, text, standing.from)
 }
 
@@ -83,11 +91,22 @@ fn tell_end(rt: HostRuntime, place: Place, standing: Standing, text: &[u8]) -> R
 fn show(rt: HostRuntime, options: Options, standing: Standing) -> Result<(), Unheard> {
     let mut out = [0u8; OUTPUT];
     let form = options.form;
-    let drawn = draw(form, standing.rec, &standing.memory, options.panel, true, &mut out);
-    if number(drawn.answer) != 0 {
+    let Ok(length) = draw(
+        form,
+        standing.rec,
+        &standing.memory,
+        options.panel,
+        true,
+        &mut out,
+    ) else {
         return tell_usage(rt);
-    }
-    let whole = send_or_tell(&mut rt.stdout(), &mut rt.stderr(), NAME, first(&out, drawn.length))?;
+    };
+    let whole = send_or_tell(
+        &mut rt.stdout(),
+        &mut rt.stderr(),
+        NAME,
+        first(&out, length),
+    )?;
     if !whole || (matches!(form, Form::Bitmap) && standing.refusals == 0) {
         return Ok(());
     }
@@ -97,7 +116,7 @@ fn show(rt: HostRuntime, options: Options, standing: Standing) -> Result<(), Unh
 // Plays a session, tells of a bad line, and draws what was played so far.
 fn play_and_show(rt: HostRuntime, options: Options, text: &[u8]) -> Result<(), Unheard> {
     let standing = play_through(text, options.frequency, options.until);
-    if number(standing.answer) != 0 {
+    if !is_done(standing.answer) {
         tell_end(rt, place_for_words(options.form), standing, text)?;
     }
     show(rt, options, standing)

@@ -55,14 +55,20 @@ fn size_of(word: &[u8]) -> Option<u8> {
 
 // No session has more than 99,999 transfers.
 fn transfers_of(word: &[u8]) -> Option<u64> {
-    digits_of(word)?.parse().ok().filter(|&count| count <= 99_999)
+    digits_of(word)?
+        .parse()
+        .ok()
+        .filter(|&count| count <= 99_999)
 }
 
 impl Asked {
     // The panel. The one of 20 x 4 is named by its size, since no other has four lines.
     fn panel(self) -> Option<Profile> {
         match (self.divided, self.columns, self.lines) {
-            (None, None, None) => Some(Profile::Plain(Size { columns: 16, lines: 2 })),
+            (None, None, None) => Some(Profile::Plain(Size {
+                columns: 16,
+                lines: 2,
+            })),
             (None, Some(20), Some(4)) => Some(Profile::FourRows),
             (None, Some(columns), Some(lines)) => Some(Profile::Plain(Size { columns, lines })),
             (Some(()), None, None) => Some(Profile::Divided),

@@ -1,14 +1,10 @@
 // What is told under a drawing: how many transfers were played and refused, and the first refused one.
-use lines::Page;
+use lines::{Page, words_of};
 use player::Standing;
 use std::fmt::Write;
 
 // More than the longest such line takes.
 pub type Refusals = Page<160>;
-
-fn words_of(_answer: controller::Answer) -> &'static str {
-    "x"
-}
 
 // The transfers that were played, one less than the number of the line after them, and what became of them.
 pub fn refusals_of(standing: Standing) -> Refusals {
