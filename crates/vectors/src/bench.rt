@@ -1,7 +1,7 @@
 // The controller of an example, and what a step does to it.
 use crate::row::Action;
 use controller::{
-    Control, Counter, Entry, Frequency, Function, Record, after_reset, is_refusal, reset,
+    Control, Counter, Entry, Frequency, Function, Kind, Record, after_reset, is_refusal, reset,
     short_time, transfer,
 };
 
@@ -39,8 +39,8 @@ impl Bench {
         }
     }
 
-    fn send(&mut self, kind: u8, byte: u8, wait: u32) -> Result<(), Refused> {
-        let outcome = transfer(self.rec, &mut self.memory, kind, byte, wait);
+    fn send(&mut self, kind: Kind, byte: u8, wait: u32) -> Result<(), Refused> {
+        let outcome = transfer(self.rec, &mut self.memory, kind as u8, byte, wait);
         self.rec = outcome.rec;
         if is_refusal(outcome.answer) {
             Err(Refused)
@@ -52,7 +52,7 @@ impl Bench {
     // Eighty data writes, 21h to 70h: another shape in each display cell, so that each can be told from the others.
     fn fill(&mut self) -> Result<(), Refused> {
         for code in 0x21..=0x70 {
-            self.send(1, code, short_time(Frequency::OLDER))?;
+            self.send(Kind::DataWrite, code, short_time(Frequency::OLDER))?;
         }
         Ok(())
     }

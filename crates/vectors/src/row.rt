@@ -15,6 +15,7 @@
 //     A, B     the addresses that stand at the first eight positions of line 1, or of both lines
 //     1, 2     the dots of the first or the second position, row by row
 //     R        the record
+use controller::Kind;
 
 // A row, by its first byte.
 #[derive(Clone, Copy)]
@@ -39,9 +40,9 @@ pub struct Step<'a> {
 #[derive(Clone, Copy)]
 pub enum Action {
     PowerOn,
-    // A byte, or its two halves. The kind is 0 for an instruction write and 1 for a data write, as `transfer` takes it.
+    // A byte, or its two halves.
     Send {
-        kind: u8,
+        kind: Kind,
         byte: u8,
         second: Option<u8>,
         wait: u32,
@@ -85,8 +86,8 @@ fn field(row: &str, from: usize, end: usize) -> &str {
 fn action_of(row: &str) -> Option<Action> {
     match field(row, 3, 4) {
         "P" => Some(Action::PowerOn),
-        "I" => send_of(0, row),
-        "D" => send_of(1, row),
+        "I" => send_of(Kind::InstructionWrite, row),
+        "D" => send_of(Kind::DataWrite, row),
         "F" => Some(Action::Fill),
         "-" => Some(Action::Nothing),
         _ => None,
@@ -94,7 +95,7 @@ fn action_of(row: &str) -> Option<Action> {
 }
 
 // The transfer of a row: its byte, or its first half and its second, and the microseconds since the transfer before.
-fn send_of(kind: u8, row: &str) -> Option<Action> {
+fn send_of(kind: Kind, row: &str) -> Option<Action> {
     Some(Action::Send {
         kind,
         byte: u8::from_str_radix(field(row, 5, 7), 16).ok()?,
