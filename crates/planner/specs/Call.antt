@@ -1,12 +1,11 @@
 -- The public call: plan, with its refusals in order (document 01, "The plan", "What each number says").
 -- Assumes nothing.
-use Rattle.std.specs.Prelude.{cond, not, List, [], ◌++◌, ◌≡◌, ℕ, ltb, length, drop}
+use Rattle.std.specs.Prelude.{cond, not, List, [], ◌++◌, ◌≡◌, ℕ, ltb, length, drop, Result, Ok, Err}
 use Rattle.controller.specs.Bus.{whole}
-use Rattle.controller.specs.Answers.{number_of}
+use Rattle.controller.specs.Answers.{number_of, is_done}
 use Rattle.controller.specs.declared.sent.Sent.{Sent}
 use Rattle.controller.specs.declared.answers.Answer.{Answer}
 use Rattle.controller.specs.declared.answers.Answer.TheVariants.{Done, NotWhole, OutputShort, NotWish}
-use Rattle.planner.specs.declared.call.Planned.{Planned}
 use Rattle.planner.specs.declared.wish.Wish.{Wish}
 use Rattle.planner.specs.Plan.{plan_of, encoded}
 use Rattle.planner.specs.Wish.{is_wish}
@@ -37,8 +36,26 @@ reply_to wish marks values out =
 unfoldable pub laid_out : List Sent → List ℕ → List ℕ
 laid_out plan out = encoded plan ++ drop (length (encoded plan)) out
 
--- What `plan` promises of a reply: the answer, its number in the table, the count of records, and every byte of the buffer.
+-- An answer, and how many records were written.
+pub record Planned : Type 0 where
+  pub answer : Answer
+  pub count : ℕ
+
+-- What is to be told of a reply.
+abbrev pub told_of : Reply → Planned
+told_of reply = record { answer = reply.answer; count = length reply.plan }
+
+-- As the caller of `plan` is told it: the count where the answer is 0, and else the refusal.
+abbrev pub result_of : Planned → Result ℕ Answer
+result_of planned = cond (is_done planned.answer) (Ok planned.count) (Err planned.answer)
+
+-- What `plan` promises of a reply: what is returned, and every byte of the buffer.
+pub record Returns (reply : Reply) (before : List ℕ) (returned : Result ℕ Answer) (after : List ℕ) : Type 0 where
+  pub told : returned ≡ result_of (told_of reply)
+  pub buffer : after ≡ laid_out reply.plan before
+
+-- A reply in full: the answer, its number in the table, the count of records, and every byte of the buffer.
 pub record Plans (reply : Reply) (before : List ℕ) (returned : Planned) (after : List ℕ) : Type 0 where
-  pub told : returned ≡ record { answer = reply.answer; count = length reply.plan }
+  pub told : returned ≡ told_of reply
   pub number : number_of returned.answer ≡ number_of reply.answer
   pub buffer : after ≡ laid_out reply.plan before

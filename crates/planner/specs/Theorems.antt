@@ -8,9 +8,8 @@ use Rattle.controller.specs.Rows.{NotLong, OutOfRange}
 use Rattle.controller.specs.declared.sent.Sent.{Sent}
 use Rattle.controller.specs.Runs.{State, heard, ran}
 use Rattle.controller.specs.declared.answers.Answer.TheVariants.{Done}
-use Rattle.planner.specs.declared.call.Planned.{Planned}
 use Rattle.planner.specs.declared.wish.Wish.{Wish}
-use Rattle.planner.specs.Call.{reply_to, Plans}
+use Rattle.planner.specs.Call.{Planned, reply_to, Plans}
 use Rattle.planner.specs.Demand.{Asked, Bytes, NoneBusy, Serves, at_frequency, excepted}
 use Rattle.controller.specs.Sent.{sent_at}
 use Rattle.planner.specs.Plan.{single, plan_of}

@@ -7,5 +7,5 @@ mod commands;
 mod pen;
 mod wish;
 
-pub use call::{Planned, plan};
+pub use call::plan;
 pub use wish::Wish;

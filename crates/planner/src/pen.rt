@@ -1,11 +1,15 @@
 // Writes records into the lent buffer, one after the other.
-ghost use Rattle.std.specs.Prelude.{◌∷◌, [], ◌≡◌, ◌+◌, ◌*◌, ◌<◌, ◌≤◌, length};
+ghost use Rattle.std.specs.Prelude.{◌∷◌, [], ◌≡◌, ◌+◌, ◌*◌, ◌<◌, ◌≤◌};
 ghost use Rattle.std.proofs.lemmas.List.Edits.{sets};
-ghost use Rattle.planner.specs.Pen.{Wrote};
+ghost use Rattle.controller.specs.Kind.{kind_number};
 ghost use Rattle.controller.specs.Sent.{six_bytes};
+ghost use Rattle.planner.specs.Pen.{Wrote};
 ghost use Rattle.planner.specs.Plan.{time_of, times_at};
 
-use controller::{Frequency, Sent, long_time, short_time, six_bytes};
+use controller::{Frequency, Kind, Sent, long_time, short_time, six_bytes};
+
+// Room for the longest plan: 468 records of six bytes.
+pub type Buffer = [u8; 2808];
 
 // The two times that a command can take, worked out once for a plan.
 #[derive(Clone, Copy)]
@@ -31,61 +35,51 @@ pub fn times_at(frequency: Frequency) -> Times
     }
 }
 
+// A transfer of this kind, as it is sent.
+pub fn sent(kind: Kind, byte: u8, wait: u32) -> Sent
+    ensures { result ≡ record { kind = kind_number kind; byte = byte; wait = wait } }
+{
+    Sent {
+        kind: kind as u8,
+        byte,
+        wait,
+    }
+}
+
 // One record, its six bytes.
-pub fn put(out: &mut [u8], at: usize, sent: Sent)
-    requires { (at < 468) × (2808 ≤ length out.old) }
+pub fn put(out: &mut Buffer, at: usize, sent: Sent)
+    requires { at < 468 }
     ensures { out.new ≡ sets out.old (at * 6) (six_bytes sent) }
 {
     let from = at * 6;
-    let bytes = six_bytes(sent);
-    out[from] = bytes[0];
-    out[from + 1] = bytes[1];
-    out[from + 2] = bytes[2];
-    out[from + 3] = bytes[3];
-    out[from + 4] = bytes[4];
-    out[from + 5] = bytes[5];
+    out[from..from + 6].copy_from_slice(&six_bytes(sent));
 }
 
 // The time that a command takes: of those sent in two halves, only Home is long.
-fn time_of(times: Times, kind: u8, byte: u8) -> u32
-    ensures { result ≡ time_of times (record { kind = kind; byte = byte }) }
+#[tactic(auto, unfolding(crate::specs::Plan::time_of))]
+fn time_of(times: Times, kind: Kind, byte: u8) -> u32
+    ensures { result ≡ time_of times (record { kind = kind_number kind; byte = byte }) }
 {
-    if kind == 0 {
-        if byte == 0x02 {
-            return times.long;
-        }
+    if kind == Kind::InstructionWrite && byte == 0x02 {
+        times.long
+    } else {
+        times.short
     }
-    times.short
 }
 
-// A command in two halves: the first waits for the instruction before it, the second 1.
-pub fn send(out: &mut [u8], pen: Pen, kind: u8, byte: u8) -> Pen
-    requires { (pen.at + 2 ≤ 468) × (2808 ≤ length out.old) }
-    ensures { Wrote (record { kind = kind; byte = byte } ∷ []) pen result out.old out.new }
-{
-    let at = pen.at;
-    let times = pen.times;
-    put(
-        out,
-        at,
-        Sent {
-            kind,
-            byte: byte / 16 * 16,
-            wait: pen.wait,
-        },
-    );
-    put(
-        out,
-        at + 1,
-        Sent {
-            kind,
-            byte: byte % 16 * 16,
-            wait: 1,
-        },
-    );
-    Pen {
-        at: at + 2,
-        wait: time_of(times, kind, byte),
-        times,
+// The buffer is lent beside the pen: a pen that held the loan would say in each contract that it is still the same one.
+impl Pen {
+    // A command in two halves: the first waits for the instruction before it, the second 1.
+    pub fn send(&mut self, out: &mut Buffer, kind: Kind, byte: u8)
+        requires { self.old.at + 2 ≤ 468 }
+        ensures { Wrote (record { kind = kind_number kind; byte = byte } ∷ []) self.old self.new out.old out.new }
+    {
+        put(out, self.at, sent(kind, byte / 16 * 16, self.wait));
+        put(out, self.at + 1, sent(kind, byte % 16 * 16, 1));
+        *self = Pen {
+            at: self.at + 2,
+            wait: time_of(self.times, kind, byte),
+            ..*self
+        };
     }
 }

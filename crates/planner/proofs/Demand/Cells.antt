@@ -1,5 +1,6 @@
 -- The marked cells, one by one: before each place the cells below it are written, and inside a run the counter is there.
 -- Assumes nothing.
+use Rattle.std.specs.Prelude.{Option}
 use mathlib.Core.Bool.{Bool, true, false, not, false≢true}
 use mathlib.Core.List.{List, ◌∷◌, ◌++◌, append_assoc}
 use mathlib.Core.Logic.{⊎_elim}
@@ -24,7 +25,6 @@ use Rattle.controller.specs.Runs.{State, after}
 use Rattle.controller.specs.declared.cells.Add.{Add}
 use Rattle.controller.specs.declared.cells.Counter.{Counter}
 use Rattle.controller.specs.declared.cells.Counter.TheVariants.{Display, Pattern}
-use Rattle.controller.specs.declared.cells.Named.{Named}
 use Rattle.controller.specs.declared.decision.Decision.{Decision}
 use Rattle.controller.specs.declared.decision.Effect.TheVariants.{Store}
 use Rattle.controller.specs.declared.instruction.Instruction.{Instruction}
@@ -123,7 +123,7 @@ display_does mem n place rec low lines =
     ap (λ (i : Instruction). executed mem i rec)
     (ap decoded byte ∙ decoded_display (0x80 + a) (omega arith) ∙ ap (λ (x : ℕ). DisplayAddress (add x)) back)
     ∙ ap (λ (x : Bool). addressed mem (cell_of_add x (add_of_cell n place)) rec) lines
-    ∙ ap (λ (x : Named). addressed mem x rec) ((addresses_match n).0 place low)
+    ∙ ap (λ (x : Option ℕ). addressed mem x rec) ((addresses_match n).0 place low)
 
 pattern_does : (mem : List ℕ) (n : Bool) (place : ℕ) (rec : Record) → 80 ≤ place → place < 144
     → executed mem (decoded (address_byte n place)) rec ≡ changed (loaded mem (placed (Pattern (place - 80)) rec))

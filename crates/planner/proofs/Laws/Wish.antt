@@ -1,14 +1,12 @@
 -- Laws of wishes: the marks one by one, and what an accepted wish tells.
 -- Assumes nothing.
 use mathlib.Core.Bool.{Bool, true, false, not, ◌&&◌}
-use mathlib.Core.List.{List}
-use mathlib.Core.Path.{◌≡◌, sym, ap, ◌∙◌}
-use Prim.Native.Nat.{ℕ, ◌+◌, ◌<◌, ◌≤◌}
-use native.Mathlib.Numerals.{add-one}
+use mathlib.Core.List.{List, [], ◌∷◌}
+use mathlib.Core.Path.{◌≡◌, refl, ap}
+use Rattle.std.specs.List.{list_all}
+use Prim.Native.Nat.{ℕ, ◌<◌, ◌≤◌}
 use native.Mathlib.Omega.{arith}
 use lib.Dec.{leb, ltb}
-use lib.ListN.{length, get_or, drop, drop_of_length-le}
-use lib.Seq.{drop-cons}
 use borrow.Author.Tests.{ltb-true}
 use Rattle.controller.proofs.Laws.Choice.{and_left, and_right}
 use Rattle.controller.specs.Cells.{line_length}
@@ -17,18 +15,11 @@ use Rattle.planner.specs.declared.wish.Wish.{Wish}
 use Rattle.planner.specs.Plan.{worth}
 use Rattle.planner.specs.Wish.{is_wish, marks_fit}
 
--- one mark more
-pub fit_more : (marks : List ℕ) (place : ℕ) → place < length marks
-    → marks_fit (drop place marks) ≡ (leb (get_or marks place 0) 1 && marks_fit (drop (place + 1) marks))
+-- each mark is tested
+pub all_fit : (marks : List ℕ) → marks_fit marks ≡ list_all (λ mark. leb mark 1) marks
 unfolding marks_fit
-fit_more marks place below =
-    ap marks_fit (drop-cons marks place 0 below)
-    ∙ ap (λ (k : ℕ). leb (get_or marks place 0) 1 && marks_fit (drop k marks)) (sym (add-one place))
-
--- no marks left
-pub fit_none : (marks : List ℕ) (place : ℕ) → length marks ≤ place → marks_fit (drop place marks) ≡ true
-unfolding marks_fit
-fit_none marks place over = ap marks_fit (drop_of_length-le marks over)
+all_fit [] = refl
+all_fit (mark ∷ marks) = ap (λ (rest : Bool). leb mark 1 && rest) (all_fit marks)
 
 pub wish_shift : (wish : Wish) (marks : List ℕ) → is_wish wish marks ≡ true → wish.shift < line_length wish.function.n
 unfolding is_wish

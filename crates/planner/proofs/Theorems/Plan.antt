@@ -27,9 +27,8 @@ use Rattle.controller.specs.declared.oscillator.Frequency.{Frequency}
 use Rattle.controller.specs.declared.«record».Half.TheVariants.{DataWrite}
 use Rattle.planner.proofs.Demand.Theorem.{cut_runs}
 use Rattle.planner.proofs.Laws.Count.{plan_bound}
-use Rattle.planner.specs.declared.call.Planned.{Planned}
 use Rattle.planner.specs.declared.wish.Wish.{Wish}
-use Rattle.planner.specs.Call.{Reply, wanted, reply_to, laid_out}
+use Rattle.planner.specs.Call.{Planned, Reply, wanted, reply_to, laid_out}
 use Rattle.planner.specs.Demand.{NoneBusy, Serves, at_frequency, half_write, excepted}
 use Rattle.controller.proofs.Laws.Sent.{four_bytes}
 use Rattle.planner.specs.Plan.{Command, worth, counter_at, address_byte, cell, cells_below, commands, time_of, times_at, in_halves, plan_of, encoded}

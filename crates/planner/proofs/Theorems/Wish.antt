@@ -16,9 +16,8 @@ use Rattle.controller.specs.Bus.{whole}
 use Rattle.controller.specs.Cells.{line_length}
 use Rattle.controller.specs.Answers.{number_of, Tells}
 use Rattle.controller.specs.declared.answers.Answer.TheVariants.{NotWhole}
-use Rattle.planner.specs.declared.call.Planned.{Planned}
 use Rattle.planner.specs.declared.wish.Wish.{Wish}
-use Rattle.planner.specs.Call.{Reply, wanted, turned_down, reply_to, laid_out}
+use Rattle.planner.specs.Call.{Planned, Reply, wanted, turned_down, reply_to, laid_out}
 use Rattle.planner.specs.Plan.{encoded}
 use Rattle.planner.specs.Theorems.{plan_rows, PlanAnswers, MarkAbove, NotWished, NotWishes, PlanRefusals, OnePlan}
 use Rattle.planner.specs.Wish.{marks_fit, is_wish}

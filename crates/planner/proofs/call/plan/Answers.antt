@@ -1,44 +1,33 @@
--- `planner::call::plan` meets its contract: the refusals come in the order of `reply_to`.
+-- `planner::call::plan` meets its contract: the refusals come in the order of `reply_to`, and the part of the buffer that is
+-- written is its start.
 -- Assumes nothing.
-use Rattle.planner.proofs.Laws.Reply.{reply_done}
-use Rattle.controller.proofs.Laws.Record.{whole_length}
+use Rattle.controller.specs.Bus.{whole}
 use Rattle.planner.specs.Call.{reply_to, laid_out, wanted}
 use Rattle.planner.specs.Plan.{encoded}
-use borrow.Author.Tests.{lt-ltb}
-use mathlib.Core.Path.{refl, sym, ◌∙◌}
 use borrow.Author.Rules.{rules}
+use mathlib.Core.Path.{sym, ◌∙◌}
+use Rattle.planner.proofs.Laws.Reply.{returns_plan}
 use Rattle.planner.proofs.call.plan.Goals as goal
 
-pub returns-then-not-is_whole : goal.returns-then-not-is_whole
-unfolding reply_to laid_out encoded
-returns-then-not-is_whole c = simp (c.turn_down.ensures, sym c.is_whole.ensures ∙ c.if-not-is_whole.true) (search rules)
+pub returns-in_default : goal.returns-in_default
+unfolding reply_to whole laid_out encoded
+returns-in_default c = record { told = search rules; buffer = search rules }
 
-pub returns-then-not-is_whole-2 : goal.returns-then-not-is_whole-2
-unfolding reply_to laid_out encoded
-returns-then-not-is_whole-2 c = simp (c.turn_down-then-not-is_whole-2.ensures, sym c.is_whole-2.ensures ∙ c.if-not-is_whole-2.true, sym c.is_whole.ensures ∙ c.if-not-is_whole.false) (search rules)
+pub returns-in_default-try_from : goal.returns-in_default-try_from
+unfolding reply_to whole laid_out encoded
+returns-in_default-try_from c = record { told = search rules; buffer = search rules }
 
 pub returns-then-not-is_wish : goal.returns-then-not-is_wish
-unfolding reply_to laid_out encoded
-returns-then-not-is_wish c = simp (c.turn_down-then-not-is_wish.ensures, sym c.is_wish.ensures ∙ c.if-not-is_wish.true, sym c.is_whole-2.ensures ∙ c.if-not-is_whole-2.false, sym c.is_whole.ensures ∙ c.if-not-is_whole.false) (search rules)
+unfolding reply_to whole laid_out encoded
+returns-then-not-is_wish c = record { told = search rules; buffer = search rules }
 
-pub returns-then-out-lt2808 : goal.returns-then-out-lt2808
-unfolding reply_to laid_out encoded wanted
-returns-then-out-lt2808 c = simp (c.turn_down-then-out-lt2808.ensures, lt-ltb _ _ c.if-out-lt2808.true, sym c.is_wish.ensures ∙ c.if-not-is_wish.false, sym c.is_whole-2.ensures ∙ c.if-not-is_whole-2.false, sym c.is_whole.ensures ∙ c.if-not-is_whole.false) (search rules)
-
-pub write_plan-requires : goal.write_plan-requires
-write_plan-requires c = (
-  sym c.is_wish.ensures ∙ c.if-not-is_wish.false,
-  whole_length _ (sym c.is_whole.ensures ∙ c.if-not-is_whole.false),
-  whole_length _ (sym c.is_whole-2.ensures ∙ c.if-not-is_whole-2.false),
-  c.if-out-lt2808.false,
-)
+pub returns-in_default-first_chunk_mut : goal.returns-in_default-first_chunk_mut
+unfolding reply_to whole laid_out encoded wanted
+returns-in_default-first_chunk_mut c = record { told = search rules; buffer = search rules }
 
 pub returns : goal.returns
-unfolding wanted
 returns c =
-    rw (reply_done _ _ _ _
-    (sym c.is_whole.ensures ∙ c.if-not-is_whole.false)
-    (sym c.is_whole-2.ensures ∙ c.if-not-is_whole-2.false)
-    (sym c.is_wish.ensures ∙ c.if-not-is_wish.false)
-    c.if-out-lt2808.false)
-    (record { told = simp c.write_plan.ensures.0; number = refl; buffer = c.write_plan.ensures.1 })
+    let wished = sym c.is_wish.ensures ∙ c.if-not-is_wish.false in
+    returns_plan c.args.wish c.args.marks.now c.args.values.now c.args.out.now
+    (rw c.in-Ok.is at c.try_from.ensures).1 (rw c.in-Ok-try_from.is at c.try_from-2.ensures).1 wished
+    (rw c.in-Some.is at c.first_chunk_mut.ensures.cases) (simp c.write_plan.ensures.0) c.write_plan.ensures.1

@@ -5,5 +5,5 @@ use Rattle.planner.proofs.commands.set_up.Goals as goal
 
 pub returns : goal.returns
 returns c =
-    wrote_append (rw c.function_byte.ensures at c.send-first.ensures)
-    (wrote_append c.send-second.ensures (wrote_append c.send-third.ensures c.send.ensures))
+    wrote_append (rw c.function_byte.ensures at c.send.ensures)
+    (wrote_append c.send-2.ensures (wrote_append c.send-3.ensures c.send-4.ensures))
