@@ -1,15 +1,14 @@
 -- Reset and transfer over a record of 24 bytes and a memory of 144: what is returned, and every byte that is lent.
 -- Assumes nothing.
-use Rattle.std.specs.Prelude.{cond, not, List, ◌≡◌, ℕ, ◌+◌, ◌*◌}
+use Rattle.std.specs.Prelude.{cond, not, List, ◌≡◌, ℕ, ◌+◌, ◌*◌, Option, Some, None}
 use Rattle.controller.specs.declared.answers.Answer.{Answer}
 use Rattle.controller.specs.declared.answers.Answer.TheVariants.{Unsound, NotWhole}
 use Rattle.controller.specs.declared.decision.Decision.{Decision}
 use Rattle.controller.specs.declared.decision.Outcome.{Outcome}
+use Rattle.controller.specs.declared.«record».Record.{Record}
 use Rattle.controller.specs.Bus.{decided, reset_decided, whole}
 use Rattle.controller.specs.Answers.{number_of}
 use Rattle.controller.specs.Decision.{performed}
-use Rattle.interface.specs.declared.record_bytes.ReadRecord.{ReadRecord}
-use Rattle.interface.specs.declared.record_bytes.ReadRecord.TheVariants.{Is, Broken}
 use Rattle.interface.specs.RecordBytes.{record_bytes, record_from, is_record_long, record_in}
 
 -- What a call over a record and a memory comes to: the number returned, the record's bytes and the memory as they are left.
@@ -28,9 +27,9 @@ abbrev pub refusal : Answer → List ℕ → List ℕ → Call
 refusal answer bytes mem = record { returned = number_of answer; rec = bytes; memory = mem }
 
 -- A transfer from what the record's bytes say: bytes that say none are an unsound record.
-unfoldable pub transfer_from : ReadRecord → List ℕ → List ℕ → ℕ → ℕ → ℕ → Call
-transfer_from Broken bytes mem kind byte wait = refusal Unsound bytes mem
-transfer_from (Is rec) bytes mem kind byte wait = call_of (decided rec mem kind byte wait) mem
+unfoldable pub transfer_from : Option Record → List ℕ → List ℕ → ℕ → ℕ → ℕ → Call
+transfer_from None bytes mem kind byte wait = refusal Unsound bytes mem
+transfer_from (Some rec) bytes mem kind byte wait = call_of (decided rec mem kind byte wait) mem
 
 -- What `yaropesk_transfer` comes to.
 abbrev pub transfer_call : List ℕ → List ℕ → ℕ → ℕ → ℕ → Call

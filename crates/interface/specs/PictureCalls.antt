@@ -1,14 +1,12 @@
 -- The picture for C: the answer's number, and every byte of the output.
 -- Assumes nothing.
-use Rattle.std.specs.Prelude.{Bool, cond, not, List, ℕ, eqb, length}
+use Rattle.std.specs.Prelude.{Bool, cond, not, List, ℕ, eqb, length, Option, Some, None}
 use Rattle.controller.specs.declared.answers.Answer.TheVariants.{Unsound}
 use Rattle.controller.specs.declared.«record».Record.{Record}
 use Rattle.controller.specs.Answers.{number_of}
 use Rattle.dots.specs.declared.panel.Profile.{Profile}
 use Rattle.dots.specs.declared.panel.Profile.TheVariants.{Plain, FourRows, Divided, Unknown}
 use Rattle.dots.specs.Picture.{answered, output}
-use Rattle.interface.specs.declared.record_bytes.ReadRecord.{ReadRecord}
-use Rattle.interface.specs.declared.record_bytes.ReadRecord.TheVariants.{Is, Broken}
 use Rattle.interface.specs.Filling.{Filling, declined}
 use Rattle.interface.specs.RecordBytes.{record_in}
 
@@ -18,9 +16,9 @@ drawing_of rec mem profile lit out =
     record { returned = number_of (answered rec mem profile (length out)); buffer = output rec mem profile lit out }
 
 -- The picture of what the record's bytes say: bytes that say none are an unsound record.
-unfoldable pub picture_from : ReadRecord → List ℕ → Profile → Bool → List ℕ → Filling
-picture_from Broken mem profile lit out = declined Unsound out
-picture_from (Is rec) mem profile lit out = drawing_of rec mem profile lit out
+unfoldable pub picture_from : Option Record → List ℕ → Profile → Bool → List ℕ → Filling
+picture_from None mem profile lit out = declined Unsound out
+picture_from (Some rec) mem profile lit out = drawing_of rec mem profile lit out
 
 -- The panel that a number names: 0 the plain geometry of these columns and lines; 1 the 20 x 4 panel and 2 the divided 16 x 1
 -- row, which take no notice of them. Any other is unknown.

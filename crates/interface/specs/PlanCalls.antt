@@ -1,13 +1,12 @@
 -- The plan for C: the answer's number, 256 times the count of records, and every byte of the buffer.
 -- Assumes nothing.
-use Rattle.std.specs.Prelude.{cond, not, List, ℕ, ◌+◌, ◌*◌, length}
+use Rattle.std.specs.Prelude.{cond, not, List, ℕ, ◌+◌, ◌*◌, length, Option, Some, None}
 use Rattle.controller.specs.declared.answers.Answer.{Answer}
 use Rattle.controller.specs.declared.answers.Answer.TheVariants.{NotWhole, NotWish}
 use Rattle.controller.specs.Bus.{whole}
 use Rattle.controller.specs.Answers.{number_of}
+use Rattle.planner.specs.declared.wish.Wish.{Wish}
 use Rattle.planner.specs.Call.{Reply, laid_out, reply_to}
-use Rattle.interface.specs.declared.wish_bytes.ReadWish.{ReadWish}
-use Rattle.interface.specs.declared.wish_bytes.ReadWish.TheVariants.{Is, Broken}
 use Rattle.interface.specs.Filling.{Filling, declined}
 use Rattle.interface.specs.WishBytes.{wish_in}
 
@@ -21,9 +20,9 @@ unfoldable pub wishless : List ℕ → List ℕ → Answer
 wishless marks values = cond (not (whole marks)) NotWhole (cond (not (whole values)) NotWhole NotWish)
 
 -- The plan for what the wish's bytes say.
-unfoldable pub plan_from : ReadWish → List ℕ → List ℕ → List ℕ → Filling
-plan_from Broken marks values out = declined (wishless marks values) out
-plan_from (Is wish) marks values out = planning_of (reply_to wish marks values out) out
+unfoldable pub plan_from : Option Wish → List ℕ → List ℕ → List ℕ → Filling
+plan_from None marks values out = declined (wishless marks values) out
+plan_from (Some wish) marks values out = planning_of (reply_to wish marks values out) out
 
 -- What `yaropesk_plan` comes to.
 abbrev pub plan_call : List ℕ → List ℕ → List ℕ → List ℕ → Filling

@@ -1,6 +1,6 @@
 -- A controller's record as 24 bytes, and the record that bytes say.
 -- Assumes nothing.
-use Rattle.std.specs.Prelude.{Bool, true, false, cond, ◌&&◌, List, [], ◌∷◌, ◌++◌, ℕ, ◌+◌, ◌*◌, ◌/◌, ◌%◌, eqb, length, get_or}
+use Rattle.std.specs.Prelude.{Bool, true, false, cond, ◌&&◌, List, [], ◌∷◌, ◌++◌, ℕ, ◌+◌, ◌*◌, ◌/◌, ◌%◌, eqb, length, get_or, Option, Some, None}
 use Rattle.controller.specs.declared.cells.Counter.{Counter}
 use Rattle.controller.specs.declared.cells.Counter.TheVariants.{Display, Pattern}
 use Rattle.controller.specs.declared.oscillator.Frequency.{Frequency}
@@ -9,8 +9,6 @@ use Rattle.controller.specs.declared.«record».Half.TheVariants.{Empty, Instruc
 use Rattle.controller.specs.declared.«record».Record.{Record}
 use Rattle.controller.specs.Cells.{cell_of}
 use Rattle.controller.specs.Sent.{little_endian, number_from}
-use Rattle.interface.specs.declared.record_bytes.ReadRecord.{ReadRecord}
-use Rattle.interface.specs.declared.record_bytes.ReadRecord.TheVariants.{Is, Broken}
 
 -- The width, 8 or 4.
 abbrev pub width_byte : Bool → ℕ
@@ -106,13 +104,13 @@ same_bytes (x ∷ xs) [] = false
 same_bytes (x ∷ xs) (y ∷ ys) = eqb x y && same_bytes xs ys
 
 -- The record if these bytes are its own.
-unfoldable pub record_as : Record → List ℕ → ReadRecord
-record_as rec bytes = cond (same_bytes bytes (record_bytes rec)) (Is rec) Broken
+unfoldable pub record_as : Record → List ℕ → Option Record
+record_as rec bytes = cond (same_bytes bytes (record_bytes rec)) (Some rec) None
 
 -- The bytes are as many as a record has.
 abbrev pub is_record_long : List ℕ → Bool
 is_record_long bytes = eqb (length bytes) 24
 
 -- What bytes say: the one record whose 24 bytes they are. Any other length or value is none.
-unfoldable pub record_in : List ℕ → ReadRecord
-record_in bytes = cond (is_record_long bytes) (record_as (record_from bytes) bytes) Broken
+unfoldable pub record_in : List ℕ → Option Record
+record_in bytes = cond (is_record_long bytes) (record_as (record_from bytes) bytes) None

@@ -1,7 +1,7 @@
 -- What is proved of the bytes of a record and of a wish, and of the calls: each theorem is a type here, and its proof stands in
 -- proofs/Theorems.
 -- Assumes nothing.
-use Rattle.std.specs.Prelude.{true, cond, ◌||◌, List, [], ◌∷◌, ◌⊎◌, ◌≡◌, ℕ, ◌+◌, ◌*◌, ◌%◌, ◌<◌, ◌≤◌, eqb, length, get_or}
+use Rattle.std.specs.Prelude.{true, cond, ◌||◌, List, [], ◌∷◌, ◌⊎◌, ◌≡◌, ℕ, ◌+◌, ◌*◌, ◌%◌, ◌<◌, ◌≤◌, eqb, length, get_or, Option, Some, None}
 use Rattle.controller.specs.declared.answers.Answer.{Answer}
 use Rattle.controller.specs.declared.«record».Record.{Record}
 use Rattle.controller.specs.Answers.{is_refusal, number_of, Row, Tells}
@@ -16,9 +16,6 @@ use Rattle.lines.specs.Reading.{line_of}
 use Rattle.lines.specs.Theorems.{writer_rows}
 use Rattle.planner.specs.declared.wish.Wish.{Wish}
 use Rattle.planner.specs.Theorems.{NotWished, plan_rows}
-use Rattle.interface.specs.declared.record_bytes.ReadRecord.{ReadRecord}
-use Rattle.interface.specs.declared.record_bytes.ReadRecord.TheVariants.{Is, Broken}
-use Rattle.interface.specs.declared.wish_bytes.ReadWish.TheVariants as ReadWish
 use Rattle.interface.specs.CaptureCalls.{import_call}
 use Rattle.interface.specs.ControllerCalls.{Call, refusal, reset_call, transfer_call}
 use Rattle.interface.specs.Filling.{Filling, declined}
@@ -30,19 +27,19 @@ use Rattle.interface.specs.WishBytes.{wish_bytes, wish_in}
 
 -- The bytes of a sound record say that record.
 abbrev pub RecordReadsBack : Type 0
-RecordReadsBack = (rec : Record) → sound rec ≡ true → record_in (record_bytes rec) ≡ Is rec
+RecordReadsBack = (rec : Record) → sound rec ≡ true → record_in (record_bytes rec) ≡ Some rec
 
 -- Bytes that say a record are its bytes: no two buffers say the same record.
 abbrev pub RecordWritesBack : Type 0
-RecordWritesBack = (bytes : List ℕ) (rec : Record) → record_in bytes ≡ Is rec → record_bytes rec ≡ bytes
+RecordWritesBack = (bytes : List ℕ) (rec : Record) → record_in bytes ≡ Some rec → record_bytes rec ≡ bytes
 
 -- The bytes of any wish say that wish.
 abbrev pub WishReadsBack : Type 0
-WishReadsBack = (wish : Wish) → wish_in (wish_bytes wish) ≡ ReadWish.Is wish
+WishReadsBack = (wish : Wish) → wish_in (wish_bytes wish) ≡ Some wish
 
 -- Bytes that say a wish are its bytes.
 abbrev pub WishWritesBack : Type 0
-WishWritesBack = (bytes : List ℕ) (wish : Wish) → wish_in bytes ≡ ReadWish.Is wish → wish_bytes wish ≡ bytes
+WishWritesBack = (bytes : List ℕ) (wish : Wish) → wish_in bytes ≡ Some wish → wish_bytes wish ≡ bytes
 
 -- The frequency that these two bytes say, the lower first.
 abbrev pub says_khz : List ℕ → ℕ → ℕ → ℕ
@@ -50,8 +47,8 @@ says_khz bytes low high = get_or bytes low 0 + 256 * get_or bytes high 0
 
 -- A record's frequency stands in bytes 20 and 21, and a wish's in 9 and 10.
 pub record FrequencySaid : Type 0 where
-  pub record_says : (bytes : List ℕ) (rec : Record) → record_in bytes ≡ Is rec → rec.frequency.khz ≡ says_khz bytes 20 21
-  pub wish_says : (bytes : List ℕ) (wish : Wish) → wish_in bytes ≡ ReadWish.Is wish → wish.frequency.khz ≡ says_khz bytes 9 10
+  pub record_says : (bytes : List ℕ) (rec : Record) → record_in bytes ≡ Some rec → rec.frequency.khz ≡ says_khz bytes 20 21
+  pub wish_says : (bytes : List ℕ) (wish : Wish) → wish_in bytes ≡ Some wish → wish.frequency.khz ≡ says_khz bytes 9 10
 
 -- Whatever else its 24 bytes say, `yaropesk_reset` leaves there a frequency in range as it was, and FAh and 00h, which is 250,
 -- for any other.
@@ -93,9 +90,9 @@ KeepsMemory call mem bytes = (answer : Answer) → Refuses answer call.returned 
 
 -- The record's bytes after a refused transfer: as found, but for two. 4 leaves there the record with only busy reduced, 6 with
 -- the wait counted and the half gone.
-unfoldable pub bytes_left : ReadRecord → List ℕ → ℕ → Answer → List ℕ
-bytes_left Broken bytes wait answer = bytes
-bytes_left (Is rec) bytes wait answer =
+unfoldable pub bytes_left : Option Record → List ℕ → ℕ → Answer → List ℕ
+bytes_left None bytes wait answer = bytes
+bytes_left (Some rec) bytes wait answer =
     cond (eqb (number_of answer) 4 || eqb (number_of answer) 6) (record_bytes (left answer wait rec)) bytes
 
 -- What a refusal leaves, call by call. The offset of a line that is read is 0, so that 11 is told bare.

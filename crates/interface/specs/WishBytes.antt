@@ -1,9 +1,7 @@
 -- A wish as 16 bytes, and the wish that bytes say.
 -- Assumes nothing.
-use Rattle.std.specs.Prelude.{cond, List, [], ◌∷◌, ℕ, eqb, length, get_or}
+use Rattle.std.specs.Prelude.{cond, List, [], ◌∷◌, ℕ, eqb, length, get_or, Option, Some, None}
 use Rattle.planner.specs.declared.wish.Wish.{Wish}
-use Rattle.interface.specs.declared.wish_bytes.ReadWish.{ReadWish}
-use Rattle.interface.specs.declared.wish_bytes.ReadWish.TheVariants.{Is, Broken}
 use Rattle.interface.specs.RecordBytes.{bit_byte, frequency_from, high_byte, low_byte, same_bytes}
 
 -- The 16 bytes of a wish: N, F, D, C, B, I/D, S, shift, cursor, the frequency little-endian, and five zeros.
@@ -29,9 +27,9 @@ wish_from bytes =
     }
 
 -- The wish if these bytes are its own.
-unfoldable pub wish_as : Wish → List ℕ → ReadWish
-wish_as wish bytes = cond (same_bytes bytes (wish_bytes wish)) (Is wish) Broken
+unfoldable pub wish_as : Wish → List ℕ → Option Wish
+wish_as wish bytes = cond (same_bytes bytes (wish_bytes wish)) (Some wish) None
 
 -- What bytes say: the one wish whose 16 bytes they are. Any other length or value is none.
-unfoldable pub wish_in : List ℕ → ReadWish
-wish_in bytes = cond (eqb (length bytes) 16) (wish_as (wish_from bytes) bytes) Broken
+unfoldable pub wish_in : List ℕ → Option Wish
+wish_in bytes = cond (eqb (length bytes) 16) (wish_as (wish_from bytes) bytes) None

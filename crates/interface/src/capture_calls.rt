@@ -8,7 +8,5 @@ use captures::import;
 pub fn yaropesk_import(capture: &[u8], out: &mut [u8]) -> u64
     ensures { YaropeskImportPromise capture.now out.old result out.new }
 {
-    let written = import(capture, out);
-    let answer = written.answer;
-    counted_far(answer, written.length)
+    counted_far(import(capture, out))
 }

@@ -5,7 +5,7 @@ ghost use Rattle.interface.specs.ControllerCalls.{Left, Leaves, call_of};
 ghost use Rattle.interface.specs.Promises.{YaropeskResetPromise, YaropeskTransferPromise};
 ghost use Rattle.interface.specs.RecordBytes.{record_from};
 
-use crate::record_bytes::{ReadRecord, is_record_long, read_record, record_from, write_record};
+use crate::record_bytes::{is_record_long, read_record, record_from, write_record};
 use crate::told::{refused, returned};
 use controller::{Answer, Outcome, Record, is_whole, reset, transfer};
 
@@ -14,10 +14,8 @@ fn leave(outcome: Outcome, bytes: &mut [u8]) -> u32
     requires { length bytes.old ≡ 24 }
     ensures { Left outcome result bytes.new }
 {
-    let answer = outcome.answer;
-    let rec = outcome.rec;
-    write_record(rec, bytes);
-    returned(answer, outcome.byte)
+    write_record(outcome.rec, bytes);
+    returned(outcome.answer, outcome.byte)
 }
 
 // A transfer from the record that was read.
@@ -33,8 +31,7 @@ fn transfer_from(
     ensures { let call = call_of (decided rec memory.old kind byte wait) memory.old in
         Leaves call result bytes.new memory.new }
 {
-    let outcome = transfer(rec, memory, kind, byte, wait);
-    leave(outcome, bytes)
+    leave(transfer(rec, memory, kind, byte, wait), bytes)
 }
 
 // One bus transfer.
@@ -42,10 +39,9 @@ pub fn yaropesk_transfer(bytes: &mut [u8], memory: &mut [u8], kind: u8, byte: u8
     ensures { YaropeskTransferPromise bytes.old memory.old kind byte wait result bytes.new
         memory.new }
 {
-    let read = read_record(bytes);
-    match read {
-        ReadRecord::Broken => refused(Answer::Unsound),
-        ReadRecord::Is(rec) => transfer_from(rec, bytes, memory, kind, byte, wait),
+    match read_record(bytes) {
+        None => refused(Answer::Unsound),
+        Some(rec) => transfer_from(rec, bytes, memory, kind, byte, wait),
     }
 }
 
@@ -55,8 +51,7 @@ fn reset_from(bytes: &mut [u8], memory: &mut [u8]) -> u32
     ensures { let call = call_of (reset_decided (record_from bytes.old) memory.old) memory.old in
         Leaves call result bytes.new memory.new }
 {
-    let outcome = reset(record_from(bytes), memory);
-    leave(outcome, bytes)
+    leave(reset(record_from(bytes), memory), bytes)
 }
 
 // Power on. Any 24 bytes will do for the record.

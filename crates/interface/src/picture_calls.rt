@@ -4,7 +4,7 @@ ghost use Rattle.interface.specs.Filling.{Fills};
 ghost use Rattle.interface.specs.PictureCalls.{drawing_of, profile_of};
 ghost use Rattle.interface.specs.Promises.{YaropeskPicturePromise};
 
-use crate::record_bytes::{ReadRecord, read_record};
+use crate::record_bytes::read_record;
 use crate::told::refused;
 use controller::{Answer, Record};
 use dots::{Profile, Size, picture};
@@ -25,7 +25,10 @@ fn profile_of(profile: u8, columns: u8, lines: u8) -> Profile
 fn picture_of(rec: Record, memory: &[u8], profile: Profile, lit: bool, out: &mut [u8]) -> u32
     ensures { Fills (drawing_of rec memory.now profile lit out.old) result out.new }
 {
-    refused(picture(rec, memory, profile, lit, out))
+    match picture(rec, memory, profile, lit, out) {
+        Ok(()) => refused(Answer::Done),
+        Err(answer) => refused(answer),
+    }
 }
 
 // What the panel shows, five dots a byte. Any `lit` but 0 is the lit phase.
@@ -41,10 +44,9 @@ pub fn yaropesk_picture(
     ensures { YaropeskPicturePromise bytes.now memory.now profile columns lines lit
         out.old result out.new }
 {
-    let read = read_record(bytes);
-    match read {
-        ReadRecord::Broken => refused(Answer::Unsound),
-        ReadRecord::Is(rec) => picture_of(
+    match read_record(bytes) {
+        None => refused(Answer::Unsound),
+        Some(rec) => picture_of(
             rec,
             memory,
             profile_of(profile, columns, lines),

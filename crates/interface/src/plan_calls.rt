@@ -7,7 +7,7 @@ ghost use Rattle.interface.specs.PlanCalls.{planning_of, wishless};
 ghost use Rattle.interface.specs.Promises.{YaropeskPlanPromise};
 
 use crate::told::{counted, refused};
-use crate::wish_bytes::{ReadWish, read_wish};
+use crate::wish_bytes::read_wish;
 use controller::{Answer, is_whole};
 use planner::{Wish, plan};
 
@@ -16,9 +16,7 @@ fn plan_for(wish: Wish, marks: &[u8], values: &[u8], out: &mut [u8]) -> u32
     ensures { let reply = reply_to wish marks.now values.now out.old in
         Fills (planning_of reply out.old) result out.new }
 {
-    let planned = plan(wish, marks, values, out);
-    let answer = planned.answer;
-    counted(answer, planned.count)
+    counted(plan(wish, marks, values, out))
 }
 
 // Where there is no wish: 2, then 13.
@@ -39,9 +37,8 @@ pub fn yaropesk_plan(wish: &[u8], marks: &[u8], values: &[u8], out: &mut [u8]) -
     ensures { YaropeskPlanPromise wish.now marks.now values.now out.old result
         out.new }
 {
-    let read = read_wish(wish);
-    match read {
-        ReadWish::Broken => refuse_wish(marks, values),
-        ReadWish::Is(found) => plan_for(found, marks, values, out),
+    match read_wish(wish) {
+        None => refuse_wish(marks, values),
+        Some(found) => plan_for(found, marks, values, out),
     }
 }

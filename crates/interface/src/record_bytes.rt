@@ -1,36 +1,16 @@
 // A controller's record as 24 bytes.
-ghost use Rattle.std.specs.Prelude.{◌≡◌, length};
-ghost use Rattle.interface.specs.RecordBytes.{bit_byte, counter_from, frequency_from, half_byte, half_from, high_byte};
-ghost use Rattle.interface.specs.RecordBytes.{is_record_long, low_byte, memory_byte, record_bytes, record_from, record_as};
-ghost use Rattle.interface.specs.RecordBytes.{record_in, value_byte, width_byte};
+ghost use Rattle.std.specs.Prelude.{◌≡◌, ◌∷◌, [], cond, length, Some, None};
+ghost use Rattle.interface.specs.RecordBytes.{counter_from, frequency_from, half_byte, half_from, high_byte, is_record_long, low_byte};
+ghost use Rattle.interface.specs.RecordBytes.{memory_byte, record_bytes, record_from, record_in, same_bytes, value_byte, width_byte};
 
 use controller::{
     Control, Counter, Entry, Frequency, Function, Half, Record, cell_of, little_endian, number_from,
 };
 
-// What bytes say: a record, or none.
-#[derive(Clone, Copy)]
-pub enum ReadRecord {
-    Is(Record),
-    Broken,
-}
-
 fn width_byte(wide: bool) -> u8
     ensures { result ≡ width_byte wide }
 {
-    if wide {
-        return 8;
-    }
-    4
-}
-
-pub fn bit_byte(bit: bool) -> u8
-    ensures { result ≡ bit_byte bit }
-{
-    if bit {
-        return 1;
-    }
-    0
+    if wide { 8 } else { 4 }
 }
 
 fn memory_byte(counter: Counter) -> u8
@@ -59,57 +39,47 @@ fn value_byte(half: Half) -> u8
 {
     match half {
         Half::Empty => 0,
-        Half::InstructionWrite(high) => high,
-        Half::DataWrite(high) => high,
-        Half::StatusRead(byte) => byte,
-        Half::DataRead(byte) => byte,
+        Half::InstructionWrite(value) | Half::DataWrite(value) => value,
+        Half::StatusRead(value) | Half::DataRead(value) => value,
     }
 }
 
 // A frequency as two bytes, the lower first.
-pub fn low_byte(frequency: Frequency) -> u8
-    ensures { result ≡ low_byte frequency }
+pub fn khz_bytes(frequency: Frequency) -> [u8; 2]
+    ensures { result ≡ low_byte frequency ∷ high_byte frequency ∷ [] }
 {
-    (frequency.khz % 256) as u8
-}
-
-pub fn high_byte(frequency: Frequency) -> u8
-    ensures { result ≡ high_byte frequency }
-{
-    (frequency.khz / 256) as u8
+    frequency.khz.to_le_bytes()
 }
 
 // The 24 bytes of a record.
 fn bytes_of(rec: Record) -> [u8; 24]
     ensures { result ≡ record_bytes rec }
 {
-    let counter = rec.counter;
-    let half = rec.half;
-    let frequency = rec.frequency;
     let busy = little_endian(rec.busy);
+    let khz = khz_bytes(rec.frequency);
     [
         width_byte(rec.wide),
-        bit_byte(rec.function.n),
-        bit_byte(rec.function.f),
-        bit_byte(rec.control.d),
-        bit_byte(rec.control.c),
-        bit_byte(rec.control.b),
-        bit_byte(rec.entry.id),
-        bit_byte(rec.entry.s),
+        rec.function.n as u8,
+        rec.function.f as u8,
+        rec.control.d as u8,
+        rec.control.c as u8,
+        rec.control.b as u8,
+        rec.entry.id as u8,
+        rec.entry.s as u8,
         rec.shift,
-        memory_byte(counter),
-        cell_of(counter),
+        memory_byte(rec.counter),
+        cell_of(rec.counter),
         rec.reg,
-        bit_byte(rec.fresh),
-        half_byte(half),
-        value_byte(half),
+        rec.fresh as u8,
+        half_byte(rec.half),
+        value_byte(rec.half),
         0,
         busy[0],
         busy[1],
         busy[2],
         busy[3],
-        low_byte(frequency),
-        high_byte(frequency),
+        khz[0],
+        khz[1],
         0,
         0,
     ]
@@ -118,39 +88,35 @@ fn bytes_of(rec: Record) -> [u8; 24]
 fn counter_from(memory: u8, cell: u8) -> Counter
     ensures { result ≡ counter_from memory cell }
 {
-    if memory == 1 {
-        return Counter::Pattern(cell);
+    match memory {
+        1 => Counter::Pattern(cell),
+        _ => Counter::Display(cell),
     }
-    Counter::Display(cell)
 }
 
+// The frequency of two bytes, the lower first.
 pub fn frequency_from(low: u8, high: u8) -> Frequency
     ensures { result ≡ frequency_from low high }
 {
     Frequency {
-        khz: low as u16 + 256 * high as u16,
+        khz: u16::from_le_bytes([low, high]),
     }
 }
 
 fn half_from(half: u8, value: u8) -> Half
     ensures { result ≡ half_from half value }
 {
-    if half == 1 {
-        return Half::InstructionWrite(value);
+    match half {
+        1 => Half::InstructionWrite(value),
+        2 => Half::DataWrite(value),
+        3 => Half::StatusRead(value),
+        4 => Half::DataRead(value),
+        _ => Half::Empty,
     }
-    if half == 2 {
-        return Half::DataWrite(value);
-    }
-    if half == 3 {
-        return Half::StatusRead(value);
-    }
-    if half == 4 {
-        return Half::DataRead(value);
-    }
-    Half::Empty
 }
 
 // The record that 24 bytes say if they say one: a byte that a record cannot have is read as one that it can.
+#[tactic(auto, unfolding(crate::specs::RecordBytes::record_from))]
 pub fn record_from(bytes: &[u8]) -> Record
     requires { length bytes.now ≡ 24 }
     ensures { result ≡ record_from bytes.now }
@@ -180,15 +146,15 @@ pub fn record_from(bytes: &[u8]) -> Record
     }
 }
 
-// The record if these bytes are its own.
-fn read_record_as(rec: Record, bytes: &[u8]) -> ReadRecord
-    ensures { result ≡ record_as rec bytes.now }
+// What bytes say that would say this thing, if they are its own.
+pub fn if_own<T: Copy + Drop>(found: T, own: &[u8], bytes: &[u8]) -> Option<T>
+    ensures { result ≡ cond (same_bytes bytes.now own.now) (Some found) None }
 {
-    let own = bytes_of(rec);
-    if check::same(bytes, &own) {
-        return ReadRecord::Is(rec);
+    if check::same(bytes, own) {
+        Some(found)
+    } else {
+        None
     }
-    ReadRecord::Broken
 }
 
 // Whether bytes are as many as a record has.
@@ -198,14 +164,16 @@ pub fn is_record_long(bytes: &[u8]) -> bool
     bytes.len() == 24
 }
 
-// Reads a record out of bytes.
-pub fn read_record(bytes: &[u8]) -> ReadRecord
+// The record that bytes say, if they say one.
+#[tactic(auto, unfolding(crate::specs::RecordBytes::record_in, crate::specs::RecordBytes::record_as))]
+pub fn read_record(bytes: &[u8]) -> Option<Record>
     ensures { result ≡ record_in bytes.now }
 {
     if !is_record_long(bytes) {
-        return ReadRecord::Broken;
+        return None;
     }
-    read_record_as(record_from(bytes), bytes)
+    let rec = record_from(bytes);
+    if_own(rec, &bytes_of(rec), bytes)
 }
 
 // Writes a record over 24 bytes.
@@ -213,6 +181,5 @@ pub fn write_record(rec: Record, bytes: &mut [u8])
     requires { length bytes.old ≡ 24 }
     ensures { bytes.new ≡ record_bytes rec }
 {
-    let own = bytes_of(rec);
-    bytes.copy_from_slice(&own);
+    bytes.copy_from_slice(&bytes_of(rec));
 }

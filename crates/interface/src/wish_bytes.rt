@@ -1,35 +1,28 @@
 // A wish as 16 bytes.
 ghost use Rattle.std.specs.Prelude.{◌≡◌, length};
-ghost use Rattle.interface.specs.WishBytes.{wish_as, wish_bytes, wish_from, wish_in};
+ghost use Rattle.interface.specs.WishBytes.{wish_bytes, wish_from, wish_in};
 
-use crate::record_bytes::{bit_byte, frequency_from, high_byte, low_byte};
+use crate::record_bytes::{frequency_from, if_own, khz_bytes};
 use controller::{Control, Entry, Function};
 use planner::Wish;
-
-// What bytes say: a wish, or none.
-#[derive(Clone, Copy)]
-pub enum ReadWish {
-    Is(Wish),
-    Broken,
-}
 
 // The 16 bytes of a wish.
 fn wish_bytes_of(wish: Wish) -> [u8; 16]
     ensures { result ≡ wish_bytes wish }
 {
-    let frequency = wish.frequency;
+    let khz = khz_bytes(wish.frequency);
     [
-        bit_byte(wish.function.n),
-        bit_byte(wish.function.f),
-        bit_byte(wish.control.d),
-        bit_byte(wish.control.c),
-        bit_byte(wish.control.b),
-        bit_byte(wish.entry.id),
-        bit_byte(wish.entry.s),
+        wish.function.n as u8,
+        wish.function.f as u8,
+        wish.control.d as u8,
+        wish.control.c as u8,
+        wish.control.b as u8,
+        wish.entry.id as u8,
+        wish.entry.s as u8,
         wish.shift,
         wish.cursor,
-        low_byte(frequency),
-        high_byte(frequency),
+        khz[0],
+        khz[1],
         0,
         0,
         0,
@@ -63,23 +56,14 @@ fn wish_from(bytes: &[u8]) -> Wish
     }
 }
 
-// The wish if these bytes are its own.
-fn read_wish_as(wish: Wish, bytes: &[u8]) -> ReadWish
-    ensures { result ≡ wish_as wish bytes.now }
-{
-    let own = wish_bytes_of(wish);
-    if check::same(bytes, &own) {
-        return ReadWish::Is(wish);
-    }
-    ReadWish::Broken
-}
-
-// Reads a wish out of bytes.
-pub fn read_wish(bytes: &[u8]) -> ReadWish
+// The wish that bytes say, if they say one.
+#[tactic(auto, unfolding(crate::specs::WishBytes::wish_in, crate::specs::WishBytes::wish_as))]
+pub fn read_wish(bytes: &[u8]) -> Option<Wish>
     ensures { result ≡ wish_in bytes.now }
 {
     if bytes.len() != 16 {
-        return ReadWish::Broken;
+        return None;
     }
-    read_wish_as(wish_from(bytes), bytes)
+    let wish = wish_from(bytes);
+    if_own(wish, &wish_bytes_of(wish), bytes)
 }

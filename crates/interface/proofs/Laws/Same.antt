@@ -11,7 +11,8 @@ use lib.Seq.{take-length}
 use borrow.Author.Tests.{eq-eqb, eqb-true}
 use Rattle.controller.proofs.Laws.Choice.{and_left, and_right}
 use Rattle.controller.specs.declared.«record».Record.{Record}
-use Rattle.interface.specs.RecordBytes.{record_bytes, same_bytes}
+use mir.Val.{bool_byte}
+use Rattle.interface.specs.RecordBytes.{bit_byte, record_bytes, same_bytes}
 
 -- any bytes are the same as themselves
 pub same_refl : (xs : List ℕ) → same_bytes xs xs ≡ true
@@ -47,3 +48,8 @@ over src dst own is same long =
 pub bytes_length : (rec : Record) → length (record_bytes rec) ≡ 24
 unfolding record_bytes
 bytes_length rec = refl
+
+-- a bit as a byte
+pub bit_told : (bit : Bool) → bool_byte bit ≡ bit_byte bit
+bit_told true = refl
+bit_told false = refl

@@ -1,6 +1,7 @@
 -- Each call tells each number exactly where its row applies: that the answer can be taken out of what is returned, and then the
 -- theorems of the crates beneath.
 -- Assumes nothing.
+use Rattle.std.specs.Prelude.{Option, Some, None}
 use mathlib.Core.Bool.{Bool, true, false, cond, not, ◌&&◌, true≢false}
 use mathlib.Core.List.{List, ◌∷◌}
 use mathlib.Core.Logic.{inl, ⊎_elim}
@@ -29,8 +30,7 @@ use Rattle.dots.specs.declared.panel.Profile.{Profile}
 use Rattle.dots.specs.Picture.{answered}
 use Rattle.dots.specs.Theorems.{picture_rows, rows_for}
 use Rattle.dots.proofs.Theorems.{picture_answers}
-use Rattle.lines.specs.declared.reader.Line.{Line}
-use Rattle.lines.specs.Reading.{line_of}
+use Rattle.lines.specs.Reading.{Reading, line_of}
 use Rattle.lines.specs.Theorems.{writer_rows}
 use Rattle.lines.specs.Writing.{line_writing}
 use Rattle.lines.proofs.Laws.Digits.{either}
@@ -42,9 +42,6 @@ use Rattle.planner.specs.Call.{reply_to}
 use Rattle.planner.specs.Theorems.{NotWished, plan_rows}
 use Rattle.planner.specs.Wish.{is_wish}
 use Rattle.planner.proofs.Theorems.Wish.{lengths_fail, plan_given, wish_fails}
-use Rattle.interface.specs.declared.record_bytes.ReadRecord.{ReadRecord}
-use Rattle.interface.specs.declared.record_bytes.ReadRecord.TheVariants.{Is, Broken}
-use Rattle.interface.specs.declared.wish_bytes.ReadWish.{ReadWish}
 use Rattle.interface.specs.CaptureCalls.{import_call}
 use Rattle.interface.specs.ControllerCalls.{Call, reset_call, transfer_call, transfer_from}
 use Rattle.interface.specs.Filling.{Filling}
@@ -65,18 +62,18 @@ tells : (told : Answer) (m returned : ℕ) (rows : List Row) → returned ≡ nu
 tells told m returned rows is by = tells_as _ _ rows (ap answer_in is ∙ answer_in_lem told m) by
 
 -- the bytes of a sound record say it
-reads_back : (bytes : List ℕ) (rec : Record) → AreOf bytes rec → record_in bytes ≡ Is rec
+reads_back : (bytes : List ℕ) (rec : Record) → AreOf bytes rec → record_in bytes ≡ Some rec
 reads_back bytes rec are =
     ap record_in are.own
     ∙ record_reads_back rec (either (sound rec) (λ s. s) (λ s. absurd (are.sound ((sound_tests rec).yes (ap not s)))))
 
-module _ (bytes : List ℕ) (returned : ReadRecord → ℕ) (rows : Record → List Row) (broken : answer_in (returned Broken) ≡ 1)
-    (unsound : (rec : Record) → Breaks rec → answer_in (returned (Is rec)) ≡ 1)
-    (by : (rec : Record) → Tells (answer_in (returned (Is rec))) (rows rec)) where
+module _ (bytes : List ℕ) (returned : Option Record → ℕ) (rows : Record → List Row) (broken : answer_in (returned None) ≡ 1)
+    (unsound : (rec : Record) → Breaks rec → answer_in (returned (Some rec)) ≡ 1)
+    (by : (rec : Record) → Tells (answer_in (returned (Some rec))) (rows rec)) where
   -- bytes that are those of no sound record say none or an unsound one
-  none_said : (read : ReadRecord) → record_in bytes ≡ read → ((rec : Record) → AreOf bytes rec → ⊥) → answer_in (returned read) ≡ 1
-  none_said Broken is none = broken
-  none_said (Is rec) is none =
+  none_said : (read : Option Record) → record_in bytes ≡ read → ((rec : Record) → AreOf bytes rec → ⊥) → answer_in (returned read) ≡ 1
+  none_said None is none = broken
+  none_said (Some rec) is none =
       either (sound rec)
       (λ s. absurd (none rec (record { own = sym (record_writes_back bytes rec is); sound = (sound_tests rec).no (ap not s) })))
       (λ s. unsound rec ((sound_tests rec).yes (ap not s)))
@@ -85,7 +82,7 @@ module _ (bytes : List ℕ) (returned : ReadRecord → ℕ) (rows : Record → L
   over-record =
       record {
         unsound = none_said (record_in bytes) refl;
-        of = λ rec are. subst (λ (read : ReadRecord). Tells (answer_in (returned read)) (rows rec)) (sym (reads_back bytes rec are)) (by rec);
+        of = λ rec are. subst (λ (read : Option Record). Tells (answer_in (returned read)) (rows rec)) (sym (reads_back bytes rec are)) (by rec);
       }
 
 -- the first row's number, where it applies
@@ -94,7 +91,7 @@ unfolding Given
 first_row number row rows by is = (by row.number).1 (inl (is, refl))
 
 module _ (bytes mem : List ℕ) (kind byte wait : ℕ) where
-  transfer-of : (rec : Record) → Tells (answer_in (transfer_from (Is rec) bytes mem kind byte wait).returned) (transfer_rows rec mem kind byte wait)
+  transfer-of : (rec : Record) → Tells (answer_in (transfer_from (Some rec) bytes mem kind byte wait).returned) (transfer_rows rec mem kind byte wait)
   unfolding transfer_from
   transfer-of rec =
       let d = decided rec mem kind byte wait in
@@ -107,7 +104,7 @@ module _ (bytes mem : List ℕ) (kind byte wait : ℕ) where
       (λ rec breaks. first_row _ _ _ (transfer-of rec) breaks) transfer-of
 
 module _ (bytes mem : List ℕ) (profile : Profile) (lit : Bool) (out : List ℕ) where
-  picture-of : (rec : Record) → Tells (answer_in (picture_from (Is rec) mem profile lit out).returned) (picture_rows rec mem profile (length out))
+  picture-of : (rec : Record) → Tells (answer_in (picture_from (Some rec) mem profile lit out).returned) (picture_rows rec mem profile (length out))
   unfolding picture_from
   picture-of rec = tells (answered rec mem profile (length out)) 0 _ _ (omega arith) (picture_answers rec mem profile (length out))
 
@@ -144,34 +141,34 @@ wishless_number marks values = go (whole marks) (whole values)
     go false b = refl
 
 -- bytes that say no wish are those of none
-no_wish : (bytes marks : List ℕ) → wish_in bytes ≡ ReadWish.Broken → Tests true (NoneWished bytes marks)
+no_wish : (bytes marks : List ℕ) → wish_in bytes ≡ None → Tests true (NoneWished bytes marks)
 no_wish bytes marks broken =
     record {
       yes = λ _ wish own.
-          let said : ReadWish.Broken ≡ ReadWish.Is wish = sym broken ∙ ap wish_in own ∙ wish_reads_back wish in
+          let said : None ≡ Some wish = sym broken ∙ ap wish_in own ∙ wish_reads_back wish in
           let z : ◌≡◌ {A = ℕ} 0 1 = cc in absurd (omega arith);
       no = λ e _. true≢false e;
     }
 
 -- bytes that say a wish are those of this one alone
-this_wish : (bytes marks : List ℕ) (wish : Wish) → wish_in bytes ≡ ReadWish.Is wish → Tests (not (is_wish wish marks)) (NoneWished bytes marks)
+this_wish : (bytes marks : List ℕ) (wish : Wish) → wish_in bytes ≡ Some wish → Tests (not (is_wish wish marks)) (NoneWished bytes marks)
 this_wish bytes marks wish says =
     tests_as
     (λ (none : NotWished wish marks) other own.
-    let same : ReadWish.Is wish ≡ ReadWish.Is other = sym says ∙ ap wish_in own ∙ wish_reads_back other in
+    let same : Some wish ≡ Some other = sym says ∙ ap wish_in own ∙ wish_reads_back other in
     let one : wish ≡ other = cc in subst (λ (w : Wish). NotWished w marks) one none)
     (λ none. none wish (sym (wish_writes_back bytes wish says)))
     (tests_fails (is_wish wish marks) (wish_fails wish marks))
 
-plan_tells : (bytes marks values out : List ℕ) (read : ReadWish) → wish_in bytes ≡ read
+plan_tells : (bytes marks values out : List ℕ) (read : Option Wish) → wish_in bytes ≡ read
     → Tells (answer_in (plan_from read marks values out).returned) (plan_rows (NoneWished bytes marks) marks values out)
 unfolding plan_from plan_rows
-plan_tells bytes marks values out ReadWish.Broken is =
+plan_tells bytes marks values out None is =
     tells (wishless marks values) 0 _ _ (omega arith)
     (tells_as _ _ _ (wishless_number marks values)
     (row_applies _ _ _ _ (lengths_fail marks values)
     (λ _. row_applies _ _ true 0 (no_wish bytes marks is) (λ some. absurd (some ((no_wish bytes marks is).yes refl))))))
-plan_tells bytes marks values out (ReadWish.Is wish) is =
+plan_tells bytes marks values out (Some wish) is =
     let reply = reply_to wish marks values out in
     tells reply.answer (length reply.plan) _ _ refl (plan_given wish marks values out (this_wish bytes marks wish is))
 
@@ -181,13 +178,13 @@ write_tells kind byte wait out =
     tells w.answer (length w.text) _ _ refl (writer_answers kind byte wait out)
 
 -- what is told of a line has its answer
-line_answer : (line : Line) → answer_in (line_told line) ≡ number_of line.answer
+line_answer : (line : Reading) → answer_in (line_told line) ≡ number_of line.answer
 line_answer line =
     let same : line_told line ≡ number_of line.answer + 256 * (line.length + 256 * line.offset) = omega arith in
     ap answer_in same ∙ answer_in_lem line.answer (line.length + 256 * line.offset)
 
 -- a line that was read
-stored_number : (line : Line) (out : List ℕ) → line.answer ≡ Done → answer_in (stored line out).returned ≡ cond (ltb (length out) 6) 11 0
+stored_number : (line : Reading) (out : List ℕ) → line.answer ≡ Done → answer_in (stored line out).returned ≡ cond (ltb (length out) 6) 11 0
 unfolding stored
 stored_number line out done =
     simp (ap is_done done)
@@ -195,7 +192,7 @@ stored_number line out done =
     (λ _. line_answer line ∙ ap number_of done))
 
 -- and one that was not
-bad_number : (line : Line) (out : List ℕ) → is_done line.answer ≡ false → answer_in (stored line out).returned ≡ number_of line.answer
+bad_number : (line : Reading) (out : List ℕ) → is_done line.answer ≡ false → answer_in (stored line out).returned ≡ number_of line.answer
 unfolding stored
 bad_number line out bad = simp bad (line_answer line)
 

@@ -1,6 +1,7 @@
 -- What a refused call leaves: two laws, one for the calls that fill a buffer and one for those over a record and a memory, and for
 -- each call what its own refusals are.
 -- Assumes nothing.
+use Rattle.std.specs.Prelude.{Option, Some, None}
 use mathlib.Core.Bool.{Bool, true, false, cond, not, ◌||◌, false≢true}
 use mathlib.Core.List.{List, []}
 use mathlib.Core.Logic.{⊎_elim}
@@ -26,8 +27,7 @@ use Rattle.captures.specs.Import.{importing}
 use Rattle.dots.proofs.Theorems.{picture_refusals}
 use Rattle.dots.specs.declared.panel.Profile.{Profile}
 use Rattle.dots.specs.Picture.{answered}
-use Rattle.lines.specs.Reading.{line_of}
-use Rattle.lines.specs.declared.reader.Line.{Line}
+use Rattle.lines.specs.Reading.{Reading, line_of}
 use Rattle.lines.specs.Writing.{Writing, line_writing, onto}
 use Rattle.lines.proofs.Laws.Digits.{either}
 use Rattle.lines.proofs.Laws.Nothing.{WritesNothing, writer_nothing}
@@ -35,9 +35,6 @@ use Rattle.lines.proofs.Theorems.Read.{read_or_refused}
 use Rattle.lines.proofs.Theorems.Session.{fault_not_good}
 use Rattle.planner.specs.Call.{reply_to}
 use Rattle.planner.proofs.Theorems.Wish.{plan_refusals}
-use Rattle.interface.specs.declared.record_bytes.ReadRecord.{ReadRecord}
-use Rattle.interface.specs.declared.record_bytes.ReadRecord.TheVariants.{Is, Broken}
-use Rattle.interface.specs.declared.wish_bytes.ReadWish.{ReadWish}
 use Rattle.interface.specs.CaptureCalls.{import_call}
 use Rattle.interface.specs.ControllerCalls.{Call, reset_call, transfer_from}
 use Rattle.interface.specs.Filling.{Filling}
@@ -81,16 +78,16 @@ not_done : (answer : Answer) → is_refusal answer ≡ true → number_of answer
 unfolding is_refusal
 not_done answer r e = false≢true (ap is_refusal (sym (one_answer answer Done e)) ∙ r)
 
-picture_kept : (read : ReadRecord) (mem : List ℕ) (profile : Profile) (lit : Bool) (out : List ℕ) → KeepsBuffer (picture_from read mem profile lit out) out
+picture_kept : (read : Option Record) (mem : List ℕ) (profile : Profile) (lit : Bool) (out : List ℕ) → KeepsBuffer (picture_from read mem profile lit out) out
 unfolding picture_from
-picture_kept Broken mem profile lit out = buffer_kept _ out Unsound 0 (omega arith) (λ _. (refl, refl))
-picture_kept (Is rec) mem profile lit out =
+picture_kept None mem profile lit out = buffer_kept _ out Unsound 0 (omega arith) (λ _. (refl, refl))
+picture_kept (Some rec) mem profile lit out =
     buffer_kept _ out (answered rec mem profile (length out)) 0 (omega arith) (λ r. (refl, picture_refusals rec mem profile lit out r))
 
-plan_kept : (read : ReadWish) (marks values out : List ℕ) → KeepsBuffer (plan_from read marks values out) out
+plan_kept : (read : Option Wish) (marks values out : List ℕ) → KeepsBuffer (plan_from read marks values out) out
 unfolding plan_from
-plan_kept ReadWish.Broken marks values out = buffer_kept _ out (wishless marks values) 0 (omega arith) (λ _. (refl, refl))
-plan_kept (ReadWish.Is wish) marks values out =
+plan_kept None marks values out = buffer_kept _ out (wishless marks values) 0 (omega arith) (λ _. (refl, refl))
+plan_kept (Some wish) marks values out =
     let reply = reply_to wish marks values out in
     buffer_kept _ out reply.answer (length reply.plan) refl
     (λ r. plan_refusals wish marks values out _ _ (record { told = refl; number = refl; buffer = refl }) (not_done reply.answer r))
@@ -133,7 +130,7 @@ module _ (text out : List ℕ) where
       (λ r. absurd (false≢true r)) refuses))
       (λ bad.
       let other = fault_not_good (line_of text).answer bad.1.fault in
-      let none : (line_of text).length ≡ 0 = ap (λ (l : Line). l.length) bad.1.zeros in
+      let none : (line_of text).length ≡ 0 = ap (λ (l : Reading). l.length) bad.1.zeros in
       line_kept (line_of text).answer answer (256 * (line_of text).offset) (line_of text).offset (simp other (omega arith)) (λ _. (refl, simp other)) refuses)
       (read_or_refused text)
 
@@ -149,7 +146,7 @@ reset_kept bytes mem =
 
 -- what a refusal leaves of a record, in its bytes
 left_bytes : (answer : Answer) (wait : ℕ) (rec : Record) (bytes : List ℕ) → record_bytes rec ≡ bytes
-    → record_bytes (left answer wait rec) ≡ bytes_left (Is rec) bytes wait answer
+    → record_bytes (left answer wait rec) ≡ bytes_left (Some rec) bytes wait answer
 unfolding left bytes_left
 left_bytes answer wait rec bytes own = go (eqb (number_of answer) 4) (eqb (number_of answer) 6) _ _
   where
@@ -159,13 +156,13 @@ left_bytes answer wait rec bytes own = go (eqb (number_of answer) 4) (eqb (numbe
     go false true x y = refl
     go false false x y = own
 
-transfer_kept : (read : ReadRecord) (bytes mem : List ℕ) (kind byte wait : ℕ) → record_in bytes ≡ read
+transfer_kept : (read : Option Record) (bytes mem : List ℕ) (kind byte wait : ℕ) → record_in bytes ≡ read
     → KeepsMemory (transfer_from read bytes mem kind byte wait) mem (bytes_left read bytes wait)
 unfolding transfer_from bytes_left performed
-transfer_kept Broken bytes mem kind byte wait is = memory_kept _ mem _ Unsound 0 (omega arith) (λ _. (refl, refl, refl))
-transfer_kept (Is rec) bytes mem kind byte wait is =
+transfer_kept None bytes mem kind byte wait is = memory_kept _ mem _ Unsound 0 (omega arith) (λ _. (refl, refl, refl))
+transfer_kept (Some rec) bytes mem kind byte wait is =
     let d = decided rec mem kind byte wait in
-    memory_kept _ mem (bytes_left (Is rec) bytes wait) d.answer d.byte refl
+    memory_kept _ mem (bytes_left (Some rec) bytes wait) d.answer d.byte refl
     (λ r. let e = transfer_refusals rec mem kind byte wait r in (
       ap (λ (x : Decision). x.byte) e,
       ap (λ (x : Decision). record_bytes x.rec) e ∙ left_bytes d.answer wait rec bytes (read_own bytes rec is),

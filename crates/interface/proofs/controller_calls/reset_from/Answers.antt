@@ -6,4 +6,4 @@ use Rattle.interface.proofs.controller_calls.reset_from.Goals as goal
 pub returns : goal.returns
 returns c =
     let sent = c in
-    reset_meets _ _ _ _ sent.record_from.ensures sent.reset-outcome.ensures c.leave.ensures
+    reset_meets _ _ _ _ sent.record_from.ensures sent.reset.ensures c.leave.ensures

@@ -5,5 +5,5 @@ use Rattle.interface.proofs.controller_calls.transfer_from.Goals as goal
 
 pub returns : goal.returns
 returns c =
-    let sent = c.transfer-outcome.ensures in
+    let sent = c.transfer.ensures in
     left_meets _ _ _ sent.told c.leave.ensures sent.memory

@@ -8,12 +8,12 @@ use borrow.Author.Rules.{rules}
 use Rattle.interface.proofs.controller_calls.yaropesk_transfer.Goals as goal
 
 pub transfer_from-requires : goal.transfer_from-requires
-transfer_from-requires c = read_length _ _ (sym c.read_record-read.ensures ∙ c.in-Is.is)
+transfer_from-requires c = read_length _ _ (sym c.read_record.ensures ∙ c.in-Some.is)
 
-pub returns-in-Broken : goal.returns-in-Broken
+pub returns-in-None : goal.returns-in-None
 unfolding transfer_from
-returns-in-Broken c = simp (c.refused.ensures, sym c.read_record-read.ensures ∙ c.in-Broken.is) (search rules)
+returns-in-None c = simp (c.refused.ensures, sym c.read_record.ensures ∙ c.in-None.is) (search rules)
 
-pub returns-in-Is : goal.returns-in-Is
+pub returns-in-Some : goal.returns-in-Some
 unfolding transfer_from
-returns-in-Is c = simp (sym c.read_record-read.ensures ∙ c.in-Is.is) (search rules)
+returns-in-Some c = simp (sym c.read_record.ensures ∙ c.in-Some.is) (search rules)

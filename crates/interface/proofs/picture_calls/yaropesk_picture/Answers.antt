@@ -6,12 +6,12 @@ use mathlib.Core.Path.{sym, ◌∙◌}
 use borrow.Author.Rules.{rules}
 use Rattle.interface.proofs.picture_calls.yaropesk_picture.Goals as goal
 
-pub returns-in-Broken : goal.returns-in-Broken
+pub returns-in-None : goal.returns-in-None
 unfolding picture_from
-returns-in-Broken c = simp (c.refused.ensures, sym c.read_record-read.ensures ∙ c.in-Broken.is) (search rules)
+returns-in-None c = simp (c.refused.ensures, sym c.read_record.ensures ∙ c.in-None.is) (search rules)
 
-pub returns-in-Is : goal.returns-in-Is
+pub returns-in-Some : goal.returns-in-Some
 unfolding picture_from
-returns-in-Is c =
+returns-in-Some c =
     let found = c in
-    rw (sym found.read_record-read.ensures ∙ found.in-Is.is, sym c.profile_of.ensures) (search rules)
+    rw (sym found.read_record.ensures ∙ found.in-Some.is, sym c.profile_of.ensures) (search rules)

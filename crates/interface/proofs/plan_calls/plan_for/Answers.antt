@@ -4,7 +4,7 @@ use Rattle.interface.proofs.Laws.Plans.{count_bound, planned_fills}
 use Rattle.interface.proofs.plan_calls.plan_for.Goals as goal
 
 pub counted-requires : goal.counted-requires
-counted-requires c = count_bound _ _ _ _ _ c.plan-planned.ensures
+counted-requires c = count_bound _ _ _ _ _ c.plan.ensures
 
 pub returns : goal.returns
-returns c = planned_fills _ _ _ c.plan-planned.ensures c.counted.ensures
+returns c = planned_fills _ _ _ _ _ c.plan.ensures c.counted.ensures
