@@ -19,7 +19,8 @@ use Rattle.controller.proofs.Theorems.Times.{oscillator_rules}
 use Rattle.controller.specs.declared.oscillator.Frequency.{Frequency}
 use Rattle.controller.specs.Answers.{number_of}
 use Rattle.drawing.proofs.Theorems.{draw_answers, draw_refusals}
-use Rattle.dots.specs.declared.geometry.Shown.TheVariants.{Cell}
+use Rattle.std.specs.Prelude.{Result, Some}
+use Rattle.controller.specs.declared.answers.Answer.{Answer}
 use Rattle.dots.specs.Font.{font}
 use Rattle.dots.specs.Geometry.{cell_at}
 use Rattle.dots.specs.Picture.{cell_row}
@@ -34,8 +35,8 @@ use Rattle.lines.proofs.Laws.Nothing.{WritesNothing, wanting_nothing, writer_not
 use Rattle.lines.proofs.Theorems.One.{one_reading, writer_answers, text_answers}
 use Rattle.lines.proofs.Theorems.Read.{read_or_refused, reader_answers, read_writes_back}
 use Rattle.lines.proofs.Theorems.Written.{buffer_reads_back, written_reads_back}
-use Rattle.lines.specs.Writing.{Writing, onto}
-use Rattle.lines.specs.declared.writer.Written.{Written}
+use Rattle.lines.specs.Writing.{Writing, answer_in, length_in, onto}
+use Rattle.lines.proofs.Laws.Told.{answer_told, length_told}
 use Rattle.planner.specs.Demand.{wished_record}
 use Rattle.planner.proofs.Theorems.Plan.{planned_runs}
 use Rattle.planner.proofs.Theorems.Wish.{not_wishes, plan_answers, plan_refusals}
@@ -69,8 +70,8 @@ each_answer =
 
 leaves : (w : Writing) (out : List ℕ) → WritesNothing w → LeavesBuffer w out
 leaves w out none returned after meets refused =
-    let empty : w.text ≡ [] = none (λ e. refused (ap (λ (r : Written). number_of r.answer) meets.told ∙ e)) in
-    (ap (λ (r : Written). r.length) meets.told ∙ ap length empty, meets.buffer ∙ ap (λ (t : List ℕ). onto t out) empty)
+    let empty : w.text ≡ [] = none (λ e. refused (ap (λ (r : Result ℕ Answer). number_of (answer_in r)) meets.told ∙ ap number_of (answer_told w) ∙ e)) in
+    (ap length_in meets.told ∙ length_told w none ∙ ap length empty, meets.buffer ∙ ap (λ (t : List ℕ). onto t out) empty)
 
 play_nothing : (frequency : Frequency) (text out : List ℕ) → WritesNothing (playing frequency text out)
 unfolding playing
@@ -151,7 +152,7 @@ demand_2 =
     }
 
 -- A cell that a position shows is one of the 80.
-shown_below : (n : Bool) (shift line position cell : ℕ) → cell_at n shift line position ≡ Cell cell → cell < 80
+shown_below : (n : Bool) (shift line position cell : ℕ) → cell_at n shift line position ≡ Some cell → cell < 80
 shown_below true shift line position cell is = rw is at (in_within 2 40 shift line position (omega arith) (omega arith))
 shown_below false shift line position cell is = rw is at (in_within 1 80 shift line position (omega arith) (omega arith))
 

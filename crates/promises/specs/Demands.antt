@@ -1,8 +1,9 @@
 -- The three demands, each as one statement over all public calls.
 -- Assumes nothing.
-use Rattle.std.specs.Prelude.{Bool, true, cond, List, ◌≡◌, ℕ, get_or}
+use Rattle.std.specs.Prelude.{Bool, true, cond, List, ◌≡◌, ℕ, get_or, Result, Some}
 use Rattle.captures.specs.Import.{importing}
 use Rattle.captures.specs.Made.{capturing}
+use Rattle.controller.specs.declared.answers.Answer.{Answer}
 use Rattle.controller.specs.declared.oscillator.Frequency.{Frequency}
 use Rattle.controller.specs.HalfRules.{HalfRules}
 use Rattle.controller.specs.Rules.{DataRules, HalvesMakeWhole, InstructionRules}
@@ -14,7 +15,6 @@ use Rattle.controller.specs.Theorems.{TransferAnswers, TransferKeepsSound, Reset
 use Rattle.controller.specs.Theorems.{TransferRefusals, LoanRefusals, ResetRefusals}
 use Rattle.controller.specs.Times.{OscillatorRules}
 use Rattle.drawing.specs.Theorems.{DrawRefusals}
-use Rattle.dots.specs.declared.geometry.Shown.TheVariants.{Cell}
 use Rattle.dots.specs.declared.panel.Profile.{Profile}
 use Rattle.dots.specs.Font.{font}
 use Rattle.dots.specs.Geometry.{shown_at}
@@ -25,8 +25,7 @@ use Rattle.dots.specs.Profiles.{FirstLineReads, OnePosition, PanelSizes, RowsRun
 use Rattle.interface.specs.Theorems.{CallRefusals}
 use Rattle.lines.specs.Faults.{ReadOrRefused}
 use Rattle.lines.specs.Theorems.{BufferReadsBack, WrittenReadsBack, ReadWritesBack, OneReading}
-use Rattle.lines.specs.Writing.{Writing, Writes, wanting, line_writing}
-use Rattle.lines.specs.declared.writer.Written.{Written}
+use Rattle.lines.specs.Writing.{Writing, Writes, answer_in, length_in, wanting, line_writing}
 use Rattle.planner.specs.Demand.{Stands, wished_record}
 use Rattle.planner.specs.Theorems.{NotWishes, PlanRefusals, PlannedRuns}
 use Rattle.planner.specs.Wish.{marked}
@@ -39,8 +38,8 @@ use Rattle.promises.specs.Determined.{EachDetermined}
 -- A refused call that writes text gives length 0 and leaves the buffer as found.
 abbrev pub LeavesBuffer : Writing → List ℕ → Type 0
 LeavesBuffer w out =
-    (returned : Written) (after : List ℕ) → Writes w out returned after → (number_of returned.answer ≡ 0 → ⊥)
-    → (returned.length ≡ 0) × (after ≡ out)
+    (returned : Result ℕ Answer) (after : List ℕ) → Writes w out returned after → (number_of (answer_in returned) ≡ 0 → ⊥)
+    → (length_in returned ≡ 0) × (after ≡ out)
 
 -- 1. Every call answers every input. Nothing has to be checked first; bad input gets a numbered refusal, and no refusal alters a
 -- memory cell or an output buffer. What it leaves in the controller's record is listed.
@@ -125,7 +124,7 @@ abbrev pub WishedOnGlass : Type 0
 WishedOnGlass =
     (wish : Wish) (marks values : List ℕ) (state : State) (profile : Profile) (lit : Bool) (line row column cell : ℕ)
     → Stands wish marks values state → wish.control.d ≡ true
-    → shown_at wish.function.n wish.shift profile line column ≡ Cell cell → marked marks cell ≡ true
+    → shown_at wish.function.n wish.shift profile line column ≡ Some cell → marked marks cell ≡ true
     → dots_on font state.rec state.mem lit profile line row column
     ≡ cond (covered (wished_record wish state.mem) lit row cell) 0b11111 (row_of font state.mem (get_or values cell 0) row)
 

@@ -2,7 +2,7 @@
 -- result meets the promise that its contract cites, and no second does. A result is what is returned, and with it each lent thing
 -- as it is left.
 -- Assumes nothing.
-use Rattle.std.specs.Prelude.{Bool, List, ◌≡◌, ℕ}
+use Rattle.std.specs.Prelude.{Bool, List, ◌≡◌, ℕ, Option, Result, ⊤}
 use Rattle.controller.specs.declared.cells.Counter.{Counter}
 use Rattle.controller.specs.declared.answers.Answer.{Answer}
 use Rattle.controller.specs.declared.decision.Outcome.{Outcome}
@@ -12,12 +12,10 @@ use Rattle.controller.specs.declared.sent.Sent.{Sent}
 use Rattle.controller.specs.declared.«record».Record.{Record}
 use Rattle.controller.specs.declared.«record».Function.{Function}
 use Rattle.drawing.specs.declared.drawing.Form.{Form}
-use Rattle.dots.specs.declared.geometry.Shown.{Shown}
 use Rattle.dots.specs.declared.panel.Profile.{Profile}
 use Rattle.dots.specs.declared.panel.Size.{Size}
+use Rattle.lines.specs.declared.reader.BadLine.{BadLine}
 use Rattle.lines.specs.declared.reader.Line.{Line}
-use Rattle.lines.specs.declared.writer.Written.{Written}
-use Rattle.planner.specs.declared.call.Planned.{Planned}
 use Rattle.planner.specs.declared.wish.Wish.{Wish}
 use Rattle.player.specs.declared.through.Standing.{Standing}
 use Rattle.captures.specs.Promises.{ImportPromise, CapturePromise, LacksSignalPromise, UnknownFallPromise, WrongWordPromise}
@@ -33,7 +31,7 @@ use Rattle.interface.specs.Promises.{YaropeskResetPromise, YaropeskTransferPromi
 use Rattle.interface.specs.Promises.{YaropeskWriteLinePromise, YaropeskReadLinePromise, YaropeskImportPromise}
 use Rattle.lines.specs.Promises.{ReadLinePromise, WriteLinePromise, WriteRowPromise, WriteHeaderPromise, HexDigitPromise}
 use Rattle.lines.specs.Promises.{WorthOfPromise, PutTextPromise, PutBytePromise, PutNumberPromise, PutHexPromise}
-use Rattle.lines.specs.Promises.{PutAnswerPromise, FirstPromise, ThreeDigitsPromise}
+use Rattle.lines.specs.Promises.{PutAnswerPromise, FirstPromise, ThreeDigitsPromise, WordsOfPromise}
 use Rattle.planner.specs.Promises.{PlanPromise}
 use Rattle.player.specs.Promises.{PlayPromise, PlayThroughPromise}
 
@@ -65,18 +63,18 @@ pub record EachDetermined : Type 0 where
   pub short_time : (frequency : Frequency) → ExactlyOne (λ (x : ℕ). ShortTimePromise frequency x)
   pub long_time : (frequency : Frequency) → ExactlyOne (λ (x : ℕ). LongTimePromise frequency x)
   pub picture : (rec : Record) (mem : List ℕ) (profile : Profile) (lit : Bool) (out : List ℕ)
-      → ExactlyOne (λ (x : Answer × List ℕ). PicturePromise rec mem profile lit out x.0 x.1)
+      → ExactlyOne (λ (x : Result ⊤ Answer × List ℕ). PicturePromise rec mem profile lit out x.0 x.1)
   pub rows_of : (function : Function) → ExactlyOne (λ (x : ℕ). RowsOfPromise function x)
   pub is_shown : (n : Bool) (shift : ℕ) (profile : Profile) (cell : ℕ)
       → ExactlyOne (λ (x : Bool). IsShownPromise n shift profile cell x)
   pub shown_at : (n : Bool) (shift : ℕ) (profile : Profile) (line column : ℕ)
-      → ExactlyOne (λ (x : Shown). ShownAtPromise n shift profile line column x)
+      → ExactlyOne (λ (x : Option ℕ). ShownAtPromise n shift profile line column x)
   pub size_of : (profile : Profile) → ExactlyOne (λ (x : Size). SizeOfPromise profile x)
   pub plan : (wish : Wish) (marks values out : List ℕ)
-      → ExactlyOne (λ (x : Planned × List ℕ). PlanPromise wish marks values out x.0 x.1)
+      → ExactlyOne (λ (x : Result ℕ Answer × List ℕ). PlanPromise wish marks values out x.0 x.1)
   pub hex_digit : (number : ℕ) → ExactlyOne (λ (x : ℕ). HexDigitPromise number x)
-  pub worth_of : (byte : ℕ) → ExactlyOne (λ (x : ℕ). WorthOfPromise byte x)
-  pub three_digits : (word : List ℕ) → ExactlyOne (λ (x : ℕ). ThreeDigitsPromise word x)
+  pub worth_of : (byte : ℕ) → ExactlyOne (λ (x : Option ℕ). WorthOfPromise byte x)
+  pub three_digits : (word : List ℕ) → ExactlyOne (λ (x : Option ℕ). ThreeDigitsPromise word x)
   pub put_byte : (out : List ℕ) (at byte : ℕ) → ExactlyOne (λ (x : ℕ × List ℕ). PutBytePromise out at byte x.0 x.1)
   pub put_text : (out : List ℕ) (at : ℕ) (text : List ℕ)
       → ExactlyOne (λ (x : ℕ × List ℕ). PutTextPromise out at text x.0 x.1)
@@ -84,24 +82,25 @@ pub record EachDetermined : Type 0 where
   pub put_hex : (out : List ℕ) (at byte : ℕ) → ExactlyOne (λ (x : ℕ × List ℕ). PutHexPromise out at byte x.0 x.1)
   pub put_answer : (out : List ℕ) (at : ℕ) (answer : Answer)
       → ExactlyOne (λ (x : ℕ × List ℕ). PutAnswerPromise out at answer x.0 x.1)
+  pub words_of : (answer : Answer) → ExactlyOne (λ (x : List ℕ). WordsOfPromise answer x)
   pub first : (bytes : List ℕ) (count : ℕ) → ExactlyOne (λ (x : List ℕ). FirstPromise bytes count x)
-  pub read_line : (text : List ℕ) → ExactlyOne (λ (x : Line). ReadLinePromise text x)
+  pub read_line : (text : List ℕ) → ExactlyOne (λ (x : Result Line BadLine). ReadLinePromise text x)
   pub write_line : (kind byte wait : ℕ) (out : List ℕ)
-      → ExactlyOne (λ (x : Written × List ℕ). WriteLinePromise kind byte wait out x.0 x.1)
+      → ExactlyOne (λ (x : Result ℕ Answer × List ℕ). WriteLinePromise kind byte wait out x.0 x.1)
   pub write_row : (number answer byte busy : ℕ) (out : List ℕ)
-      → ExactlyOne (λ (x : Written × List ℕ). WriteRowPromise number answer byte busy out x.0 x.1)
-  pub write_header : (out : List ℕ) → ExactlyOne (λ (x : Written × List ℕ). WriteHeaderPromise out x.0 x.1)
+      → ExactlyOne (λ (x : Result ℕ Answer × List ℕ). WriteRowPromise number answer byte busy out x.0 x.1)
+  pub write_header : (out : List ℕ) → ExactlyOne (λ (x : Result ℕ Answer × List ℕ). WriteHeaderPromise out x.0 x.1)
   pub play : (text : List ℕ) (frequency : Frequency) (out : List ℕ)
-      → ExactlyOne (λ (x : Written × List ℕ). PlayPromise text frequency out x.0 x.1)
+      → ExactlyOne (λ (x : Result ℕ Answer × List ℕ). PlayPromise text frequency out x.0 x.1)
   pub play_through : (text : List ℕ) (frequency : Frequency) (most : ℕ)
       → ExactlyOne (λ (x : Standing). PlayThroughPromise text frequency most x)
-  pub import : (capture out : List ℕ) → ExactlyOne (λ (x : Written × List ℕ). ImportPromise capture out x.0 x.1)
-  pub capture : (session out : List ℕ) → ExactlyOne (λ (x : Written × List ℕ). CapturePromise session out x.0 x.1)
+  pub import : (capture out : List ℕ) → ExactlyOne (λ (x : Result ℕ Answer × List ℕ). ImportPromise capture out x.0 x.1)
+  pub capture : (session out : List ℕ) → ExactlyOne (λ (x : Result ℕ Answer × List ℕ). CapturePromise session out x.0 x.1)
   pub wrong_word : (capture : List ℕ) → ExactlyOne (λ (x : Wrong). WrongWordPromise capture x)
   pub lacks_signal : (capture : List ℕ) (line : ℕ) → ExactlyOne (λ (x : Bool). LacksSignalPromise capture line x)
   pub unknown_fall : (capture : List ℕ) → ExactlyOne (λ (x : Unknown). UnknownFallPromise capture x)
   pub draw : (form : Form) (rec : Record) (mem : List ℕ) (profile : Profile) (lit : Bool) (out : List ℕ)
-      → ExactlyOne (λ (x : Written × List ℕ). DrawPromise form rec mem profile lit out x.0 x.1)
+      → ExactlyOne (λ (x : Result ℕ Answer × List ℕ). DrawPromise form rec mem profile lit out x.0 x.1)
   pub yaropesk_reset : (bytes mem : List ℕ)
       → ExactlyOne (λ (x : ℕ × List ℕ × List ℕ). YaropeskResetPromise bytes mem x.0 x.1 x.2)
   pub yaropesk_transfer : (bytes mem : List ℕ) (kind byte wait : ℕ)
