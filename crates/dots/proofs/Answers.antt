@@ -2,7 +2,7 @@
 -- Assumes nothing.
 use mathlib.Core.Bool.{Bool, true, false, cond, not, true≢false}
 use mathlib.Core.List.{List}
-use mathlib.Core.Path.{◌≡◌, refl, sym, ◌∙◌}
+use mathlib.Core.Path.{◌≡◌, refl, sym, ap, ◌∙◌}
 use Prim.Native.Nat.{ℕ, ◌≤◌, ◌<◌}
 use borrow.Author.Tests.{eqb-true, le-ltb, ltb-false, ltb-true}
 use lib.Dec.{ltb}
@@ -12,7 +12,7 @@ use Rattle.controller.specs.declared.answers.Answer.{Answer}
 use Rattle.controller.specs.declared.answers.Answer.TheVariants.{Done, Unsound, NotWhole, BadSize, OutputShort}
 use Rattle.controller.specs.declared.«record».Record.{Record}
 use Rattle.controller.specs.Bus.{whole}
-use Rattle.controller.specs.Answers.{is_done, is_refusal}
+use Rattle.controller.specs.Answers.{is_done, is_refusal, number_of}
 use Rattle.controller.specs.Record.{sound}
 use Rattle.controller.proofs.Laws.Choice.{and_left}
 use Rattle.dots.specs.declared.panel.Profile.{Profile}
@@ -109,3 +109,9 @@ module _ (rec : Record) (mem : List ℕ) (profile : Profile) (lit : Bool) (out :
   unfolding output is_refusal
   drawn after is painting =
       record { told = sym (simp is); pictured = record { told = sym is; number = simp is; out = painting ∙ simp is } }
+
+  -- And that is what is promised.
+  pub returned : PictureReturns rec mem profile lit out (result_of (answered rec mem profile (length out))) (output rec mem profile lit out)
+  returned =
+      let back = told_back (answered rec mem profile (length out)) in
+      record { told = refl; pictured = record { told = back; number = ap number_of back; out = refl } }

@@ -326,7 +326,7 @@ const FONT: [u8; 2048] = [
     0b00000, 0b00000, 0b00000, 0b00000, 0b00000, 0b00000, 0b00000, 0b00000, 0b00000, 0b00000,
 ];
 
-// One row of a code's shape.
+// One row of a code's shape. The table stays flat, as `font` lists it and the theorem `TableRows` reads it.
 #[tactic(auto, unfolding(crate::specs::Font::font, crate::specs::Font::drawn_shapes))]
 pub fn table_row(code: u8, row: usize) -> u8
     requires { row < shape_rows }

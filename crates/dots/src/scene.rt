@@ -120,6 +120,7 @@ impl Scene<'_> {
             out.new ≡ painted byte 0 (picture_length self.now.rec.function profile) out.old }
     {
         let columns = stretch_of(profile);
+        // Not by chunks_exact_mut: no contract of std says what a slice holds once its chunks are written.
         for at in 0..stretches_of(profile) * rows_of(self.rec.function) {
             self.draw_part(profile, at, &mut out[at * columns..(at + 1) * columns]);
         }

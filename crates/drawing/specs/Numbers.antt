@@ -28,7 +28,8 @@ four_digits number = digit (number / 1000 % 10) ∷ digit (number / 100 % 10) �
 abbrev pub five_wide : ℕ → List ℕ
 five_wide number = padded number 10000 ∷ four_wide number
 
--- A place of a number with so many places after it: the last is always a digit, and any other this byte where the number is smaller.
+-- A place of a number with so many places after it: the last is always a digit, and any other this byte where the number is
+-- smaller.
 abbrev pub place_of : ℕ → ℕ → ℕ → ℕ
 place_of blank number zero = digit (number % 10)
 place_of blank number (suc after) = cond (ltb number (10 ^ suc after)) blank (digit (number / 10 ^ suc after % 10))

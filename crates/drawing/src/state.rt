@@ -53,7 +53,7 @@ fn half_shown(half: Half) -> [u8; 4]
     }
 }
 
-// The lines that N drives.
+// The lines that N drives. This and the next two stay: one function of a flag and two bytes would be an `if` by another name.
 fn lines_shown(n: bool) -> u8
     ensures { result ≡ lines_shown n }
 {

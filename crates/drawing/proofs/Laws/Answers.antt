@@ -8,23 +8,22 @@ use lib.Dec.{ltb}
 use lib.ListN.{length}
 use Rattle.std.specs.Prelude.{Result, Ok, Err, ⊤}
 use Rattle.controller.specs.declared.answers.Answer.{Answer}
-use Rattle.controller.specs.declared.answers.Answer.TheVariants.{BadSize, Done, NotWhole, OutputShort, Unsound}
+use Rattle.controller.specs.declared.answers.Answer.TheVariants.{Done, Unsound, NotWhole, BadSize, OutputShort}
 use Rattle.controller.specs.declared.«record».Record.{Record}
-use Rattle.controller.specs.Answers.{is_done, is_refusal, number_of}
 use Rattle.controller.specs.Bus.{whole}
+use Rattle.controller.specs.Answers.{is_done, is_refusal, number_of}
 use Rattle.controller.specs.Record.{sound}
 use Rattle.controller.proofs.Laws.Answers.{done_is}
-use Rattle.controller.proofs.Laws.Choice.{cond-elim}
-use Rattle.dots.specs.Panel.{fits_glass}
 use Rattle.dots.specs.declared.panel.Profile.{Profile}
 use Rattle.dots.specs.Geometry.{picture_length, picture_room}
-use Rattle.dots.specs.Picture.{answer_for, answer_of, answered, result_of as picture_result}
+use Rattle.dots.specs.Panel.{fits_glass}
+use Rattle.dots.specs.Picture.{answer_for, answer_of, answered, output_left, result_of as picture_result}
 use Rattle.dots.proofs.Answers.{Passed, not_done, passed, refused_alike, room_is, told_back}
 use Rattle.dots.proofs.Panels.{panel_columns, panel_lines, picture_fits}
 use Rattle.dots.proofs.Places.{height_most}
 use Rattle.drawing.specs.declared.drawing.Form.{Form}
 use Rattle.drawing.specs.Grid.{Small}
-use Rattle.drawing.specs.Drawing.{DrawReturns, DrawnTaken, Written, answering, dots_of, drawn_length, grid_for, result_of, telling, written_in}
+use Rattle.drawing.specs.Drawing.{DrawReturns, DrawnTaken, Written, answering, dots_of, drawn_byte, drawn_length, grid_for, result_of, telling, written_in}
 
 -- What a picture that was taken shows.
 abbrev Seen : Record → List ℕ → Profile → Type 0
@@ -51,11 +50,22 @@ told_drawn {told} answer nothing is promised =
     let same : answer ≡ Done = sym (told_back answer) ∙ ap answer_of (sym promised ∙ is) in
     rw same refl
 
--- what is told of a drawing that 11 is left for
-room_told : (short : Bool) (long : ℕ) → written_in (result_of (telling (cond short OutputShort Done) long)) ≡ telling (cond short OutputShort Done) long
+-- a result tells again what a drawing came to
+told_again : (sound whole fits short : Bool) (long : ℕ)
+    → let w = telling (cond (not sound) Unsound (cond (not whole) NotWhole (cond (not fits) BadSize (cond short OutputShort Done)))) long in
+    written_in (result_of w) ≡ w
 unfolding is_refusal
-room_told true long = refl
-room_told false long = refl
+told_again true true true true long = refl
+told_again true true true false long = refl
+told_again true true false short long = refl
+told_again true false fits short long = refl
+told_again false whole fits short long = refl
+
+told_drawing : (form : Form) (rec : Record) (mem : List ℕ) (profile : Profile) (room : ℕ)
+    → let w = telling (answering form rec mem profile room) (drawn_length form rec profile) in written_in (result_of w) ≡ w
+unfolding answer_for
+told_drawing form rec mem profile room =
+    told_again (sound rec) (whole mem) (fits_glass profile) (ltb room (drawn_length form rec profile)) (drawn_length form rec profile)
 
 module _ (form : Form) (rec : Record) (mem : List ℕ) (profile : Profile) (lit : Bool) (before : List ℕ) where
   -- a picture that is refused: so is the drawing, with the same answer
@@ -75,21 +85,19 @@ module _ (form : Form) (rec : Record) (mem : List ℕ) (profile : Profile) (lit 
       → DrawReturns form rec mem profile lit before returned after
   taken_drawn {returned} {after} s taken =
       let same = room_is rec mem profile (drawn_length form rec profile) (length before) s.sound s.whole s.fits in
-      let told : written_in returned ≡ telling (answering form rec mem profile (length before)) (drawn_length form rec profile) =
-      simp (same, taken.told) (room_told _ _) in
+      let w = telling (answering form rec mem profile (length before)) (drawn_length form rec profile) in
+      let promised : returned ≡ result_of w = simp same taken.told in
+      let told : written_in returned ≡ w = ap written_in promised ∙ told_drawing form rec mem profile (length before) in
       record {
-        told = simp same taken.told;
+        told = promised;
         drawn = record { told = told; number = ap (λ (w : Written). number_of w.answer) told; out = simp same taken.out };
       }
 
--- what is told of a drawing is all that it comes to
-pub told_whole : (form : Form) (rec : Record) (mem : List ℕ) (profile : Profile) (room long : ℕ)
-    → written_in (result_of (telling (answering form rec mem profile room) long)) ≡ telling (answering form rec mem profile room) long
-unfolding answer_for is_refusal
-told_whole form rec mem profile room long =
-    let P : Answer → Type 0 = λ answer. written_in (result_of (telling answer long)) ≡ telling answer long in
-    let short = ltb room (drawn_length form rec profile) in
-    let fits = cond (not (fits_glass profile)) BadSize (cond short OutputShort Done) in
-    cond-elim P (not (sound rec)) Unsound (cond (not (whole mem)) NotWhole fits) (λ _. refl)
-    (λ _. cond-elim P (not (whole mem)) NotWhole fits (λ _. refl)
-    (λ _. cond-elim P (not (fits_glass profile)) BadSize (cond short OutputShort Done) (λ _. refl) (λ _. room_told short long)))
+  -- and that is what is promised
+  pub returned : DrawReturns form rec mem profile lit before
+      (result_of (telling (answering form rec mem profile (length before)) (drawn_length form rec profile)))
+      (output_left (answering form rec mem profile (length before)) (drawn_byte form (dots_of rec mem profile lit) mem rec (grid_for rec profile))
+      (drawn_length form rec profile) before)
+  returned =
+      let again = told_drawing form rec mem profile (length before) in
+      record { told = refl; drawn = record { told = again; number = ap (λ (w : Written). number_of w.answer) again; out = refl } }
