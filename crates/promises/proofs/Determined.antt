@@ -3,19 +3,9 @@
 use mathlib.Core.List.{List}
 use mathlib.Core.Path.{◌≡◌, refl, ap}
 use Prim.Native.Nat.{ℕ}
-use mathlib.Core.Bool.{Bool}
-use lib.ListN.{length}
-use Rattle.controller.specs.declared.«record».Record.{Record}
 use Rattle.controller.specs.Answers.{number_of}
-use Rattle.dots.specs.declared.panel.Profile.{Profile}
-use Rattle.dots.specs.Picture.{answered, output, output_left, result_of}
-use Rattle.dots.specs.Promises.{PicturePromise}
-use Rattle.dots.proofs.Answers.{told_back}
-use Rattle.drawing.specs.declared.drawing.Form.{Form}
-use Rattle.drawing.specs.Drawing.{Written, answering, dots_of, drawn_byte, drawn_length, grid_for, telling}
-use Rattle.drawing.specs.Drawing.{result_of as drawn_result}
-use Rattle.drawing.specs.Promises.{DrawPromise}
-use Rattle.drawing.proofs.Laws.Answers.{told_whole}
+use Rattle.dots.proofs.Answers.{returned as picture_returned}
+use Rattle.drawing.proofs.Laws.Answers.{returned as draw_returned}
 use Rattle.lines.specs.Text.{Put, put}
 use Rattle.lines.proofs.Laws.Told.{answer_told}
 use Rattle.promises.specs.Determined.{ExactlyOne, EachDetermined}
@@ -45,23 +35,6 @@ placed promised =
     two (λ at out. put at out ≡ promised) promised.at promised.out refl
     (λ at out is. (ap (λ (p : Put). p.at) is, ap (λ (p : Put). p.out) is))
 
--- the picture that is promised
-pictures : (rec : Record) (mem : List ℕ) (profile : Profile) (lit : Bool) (out : List ℕ)
-    → PicturePromise rec mem profile lit out (result_of (answered rec mem profile (length out))) (output rec mem profile lit out)
-pictures rec mem profile lit out =
-    let told = told_back (answered rec mem profile (length out)) in
-    record { told = refl; pictured = record { told = told; number = ap number_of told; out = refl } }
-
--- and the drawing
-draws : (form : Form) (rec : Record) (mem : List ℕ) (profile : Profile) (lit : Bool) (out : List ℕ)
-    → DrawPromise form rec mem profile lit out
-    (drawn_result (telling (answering form rec mem profile (length out)) (drawn_length form rec profile)))
-    (output_left (answering form rec mem profile (length out))
-    (drawn_byte form (dots_of rec mem profile lit) mem rec (grid_for rec profile)) (drawn_length form rec profile) out)
-draws form rec mem profile lit out =
-    let told = told_whole form rec mem profile (length out) (drawn_length form rec profile) in
-    record { told = refl; drawn = record { told = told; number = ap (λ (w : Written). number_of w.answer) told; out = refl } }
-
 pub each_determined : EachDetermined
 each_determined =
     record {
@@ -85,7 +58,7 @@ each_determined =
       is_in_range = λ frequency. one _;
       short_time = λ frequency. one _;
       long_time = λ frequency. one _;
-      picture = λ rec mem profile lit out. two _ _ _ (pictures rec mem profile lit out) (λ a l is. (is.told, is.pictured.out));
+      picture = λ rec mem profile lit out. two _ _ _ (picture_returned rec mem profile lit out) (λ a l is. (is.told, is.pictured.out));
       rows_of = λ function. one _;
       is_shown = λ n shift profile cell. one _;
       shown_at = λ n shift profile line column. one _;
@@ -113,7 +86,7 @@ each_determined =
       wrong_word = λ capture. one _;
       lacks_signal = λ capture line. one _;
       unknown_fall = λ capture. one _;
-      draw = λ form rec mem profile lit out. two _ _ _ (draws form rec mem profile lit out) (λ a l is. (is.told, is.drawn.out));
+      draw = λ form rec mem profile lit out. two _ _ _ (draw_returned form rec mem profile lit out) (λ a l is. (is.told, is.drawn.out));
       yaropesk_reset = λ bytes mem.
           three _ _ _ _ (record { told = refl; rec = refl; memory = refl }) (λ a b l is. (is.told, is.rec, is.memory));
       yaropesk_transfer = λ bytes mem kind byte wait.
