@@ -35,14 +35,14 @@ impl fmt::Display for Run<'_> {
     }
 }
 
-// The plan of a wish, laid out in this room. No plan has more than 468 records; a longer one would not be played at all, so
-// that every run of it is wrong.
+// The plan of a wish, laid out in this room. No plan is refused or has more than 468 records; one that did would not be played at
+// all, so that every run of it is wrong.
 pub fn lay_out(wish: Wish, named: Named, room: &mut [u8; 2808]) -> &[[u8; 6]] {
     let marks = cells_by(|place| u8::from(named.has(place)));
     let values = cells_by(wished_byte);
-    let planned = plan(wish, &marks, &values, room);
+    let count = plan(wish, &marks, &values, room).unwrap_or(0);
     let (records, _) = room.as_chunks();
-    records.get(..planned.count).unwrap_or(&[])
+    records.get(..count).unwrap_or(&[])
 }
 
 // The controller on the way, with its memory: the transfers sent so far, and whether one of them was refused as busy.
