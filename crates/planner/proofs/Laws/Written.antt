@@ -7,10 +7,8 @@ use Prim.Native.Nat.{ℕ, suc, ◌+◌, ◌*◌, ◌≤◌}
 use native.Mathlib.Nat.{zero-add, add-zero, add-suc, suc-add}
 use native.Mathlib.Omega.{arith}
 use native.Mathlib.Numerals.{add-one}
-use lib.ListN.{length, set, take, drop, get_or, length-append}
-use lib.Seq.{sets, length-sets, sets-eq, take-length}
-use borrow.Rule.Slice.PartMut.{put_mid}
-use Rattle.std.proofs.lemmas.Slice.{put_mid-paste}
+use lib.ListN.{length, set, drop, get_or, length-append}
+use lib.Seq.{sets, length-sets, sets-eq}
 use Rattle.controller.specs.declared.sent.Sent.{Sent}
 use Rattle.planner.specs.Wish.{marked, follows}
 use Rattle.planner.specs.declared.pen.Pen.{Pen}
@@ -26,13 +24,6 @@ sets_append l i [] b = ap (λ (k : ℕ). sets l k b) (sym (add-zero i))
 sets_append l i (x ∷ a) b =
     sets_append (set l i x) (suc i) a b
     ∙ ap (λ (k : ℕ). sets (sets (set l i x) (suc i) a) k b) (suc-add i (length a) ∙ sym (add-suc i (length a)))
-
--- a part that is overwritten by these bytes has them set one after the other
-pub put_sets : (i k : ℕ) (l bytes now : List ℕ) → now ≡ bytes → length bytes ≡ k → i + k ≤ length l → put_mid i k l now ≡ sets l i bytes
-put_sets i k l bytes now same long room =
-    put_mid-paste i k l now bytes k same refl (sym long)
-    ∙ rw (← long) (ap (λ (part : List ℕ). take i l ++ part ++ drop (i + length bytes) l) (take-length bytes))
-    ∙ sym (sets-eq bytes l i (omega arith))
 
 pub encoded_append : (a b : List Sent) → encoded (a ++ b) ≡ encoded a ++ encoded b
 unfolding encoded
