@@ -18,3 +18,4 @@ pub mod Counted
 pub mod Stamps
 pub mod Faults
 pub mod MadeWalk
+pub mod Levels

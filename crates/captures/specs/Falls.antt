@@ -3,10 +3,19 @@
 use Rattle.std.specs.Prelude.{ℕ, zero, suc, Bool, true, false, cond, not, ◌&&◌, ◌||◌, List, [], ◌∷◌, ◌++◌, drop, replicate, ◌==◌, slice_index, slice_index_or, slice_set}
 use Rattle.captures.specs.declared.form.Phase.{Phase}
 use Rattle.captures.specs.declared.form.Phase.TheVariants.{Section}
-use Rattle.captures.specs.declared.scan.Scan.{Scan}
 use Rattle.captures.specs.Words.{Word, same}
 use Rattle.captures.specs.Form.{past, changes_come, is_stamp, stamp_of, is_change, level_set}
 use Rattle.captures.specs.Definitions.{declares}
+
+-- What has been read of a capture: the phase, the levels of the eleven lines, whether a stamp has come, the stamp, E as it stood at
+-- the stamp before (2 where there was none), and whether a code was changed that is not declared.
+pub record Scan : Type 0 where
+  pub phase : Phase
+  pub levels : List ℕ
+  pub begun : Bool
+  pub stamp : ℕ
+  pub before : ℕ
+  pub strange : Bool
 
 -- Nothing is known of any line, and no stamp has come. The levels of the eleven lines are 0, 1, or 2 for x and z.
 abbrev pub blank_scan : Scan

@@ -1,14 +1,14 @@
 -- What is at fault in a capture that is refused, and where, for people who mend it (request b).
 -- Assumes nothing.
-use Rattle.std.specs.Prelude.{ℕ, ◌+◌, Bool, true, false, cond, not, ◌&&◌, List, [], ◌∷◌, length, drop, nat_lt, slice_index_or}
+use Rattle.std.specs.Prelude.{ℕ, ◌+◌, Bool, true, false, cond, not, ◌&&◌, List, [], ◌∷◌, length, drop, nat_lt, slice_index_or, Option, Some, None}
 use Rattle.captures.specs.declared.faults.Fault.{Fault}
 use Rattle.captures.specs.declared.faults.Fault.TheVariants.{Unfinished, Misplaced, Twice, Undeclared}
 use Rattle.captures.specs.declared.faults.Wrong.{Wrong}
 use Rattle.captures.specs.declared.form.Phase.{Phase}
 use Rattle.captures.specs.Words.{Word, words, is_empty}
-use Rattle.captures.specs.declared.faults.Unknown.{Unknown}
-use Rattle.captures.specs.declared.scan.Scan.{Scan}
-use Rattle.captures.specs.Form.{changes_come, is_change, is_stamp}
+use Rattle.captures.specs.declared.faults.Unknown.{Unknown as KeptUnknown}
+use Rattle.captures.specs.Falls.{Scan}
+use Rattle.captures.specs.Form.{changes_come, is_change, is_stamp, levels_of}
 use Rattle.captures.specs.Definitions.{Head, blank_head, defined, declares}
 use Rattle.captures.specs.Falls.{blank_scan, ends, falls, scanned}
 use Rattle.captures.specs.Import.{head_of, unknown_at}
@@ -49,6 +49,10 @@ is_unfinished Misplaced = false
 is_unfinished Twice = false
 is_unfinished Undeclared = false
 
+-- What is wrong, if anything is.
+abbrev pub fault_said : Fault → Option Fault
+fault_said fault = cond (is_unfinished fault) None (Some fault)
+
 -- The first word at fault, and where it begins. Where there is none, the place is behind the text.
 unfoldable pub wrong_from : List Word → Head → ℕ → List Word → Wrong
 wrong_from all head place [] = record { fault = Unfinished; place = place }
@@ -67,6 +71,19 @@ lacks_line capture line = nat_lt line 11 && is_empty (slice_index_or (head_of ca
 -- At a stamp's end: E falls, and a needed line is at x or z.
 abbrev pub falls_unknown : Scan → Bool
 falls_unknown scan = falls scan && unknown_at scan.levels
+
+-- The first fall with x or z on a needed line, or none: its stamp, where that stands in the text, and the levels of the eleven
+-- lines.
+pub record Unknown : Type 0 where
+  pub found : Bool
+  pub place : ℕ
+  pub stamp : ℕ
+  pub levels : List ℕ
+
+-- What the caller is told of it.
+abbrev pub unknown_told : Unknown → Option KeptUnknown
+unknown_told u =
+    cond u.found (Some (record { place = u.place; stamp = u.stamp; levels = levels_of u.levels })) None
 
 -- Such a fall, or none: its stamp, where that stands in the text, and the levels of the lines.
 abbrev pub unknown_of : Bool → Scan → ℕ → Unknown

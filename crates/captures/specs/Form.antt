@@ -1,8 +1,10 @@
 -- The subset of Value Change Dump text that is read: its sections, stamps and changes, word by word (request b).
 -- Assumes nothing.
-use Rattle.std.specs.Prelude.{ℕ, ◌+◌, ◌-◌, ◌*◌, Bool, true, false, cond, ◌&&◌, ◌||◌, List, [], ◌∷◌, ◌==◌, nat_le, nat_lt}
+use Rattle.std.specs.Prelude.{ℕ, ◌+◌, ◌-◌, ◌*◌, Bool, true, false, cond, ◌&&◌, ◌||◌, List, [], ◌∷◌, ◌==◌, nat_le, nat_lt, ◌≡◌, map, drop, Option, Some, None}
 use Prim.Native.Char.{code}
 use Rattle.lines.specs.Digits.{between}
+use Rattle.captures.specs.declared.form.Level.{Level}
+use Rattle.captures.specs.declared.form.Level.TheVariants.{Low, High, Open}
 use Rattle.captures.specs.declared.form.Phase.{Phase}
 use Rattle.captures.specs.declared.form.Phase.TheVariants.{Section, Scale, ScaleUnit, ScopeKind, ScopeName}
 use Rattle.captures.specs.declared.form.Phase.TheVariants.{VarType, VarSize, VarCode, VarName, Close, Ending}
@@ -35,6 +37,10 @@ unfoldable pub number_of : ℕ → List ℕ → ℕ
 number_of value [] = value
 number_of value (byte ∷ rest) = number_of (with_digit value byte) rest
 
+-- The same of all of them, where there may be no such number.
+abbrev pub number_said : List ℕ → Option ℕ
+number_said digits = cond (nat_le (number_of 0 digits) stamp_limit) (Some (number_of 0 digits)) None
+
 -- The stamp that a word says: `#` and decimal digits, at most 4,294,967,295.
 unfoldable pub stamp_of : Word → ℕ
 stamp_of [] = no_stamp
@@ -44,6 +50,30 @@ stamp_of (first ∷ digit ∷ rest) = cond (first == (code "#")) (number_of 0 (d
 -- The word is a stamp.
 abbrev pub is_stamp : Word → Bool
 is_stamp w = nat_le (stamp_of w) stamp_limit
+
+-- The same, where a word may say none.
+abbrev pub stamp_said : Word → Option ℕ
+stamp_said w = cond (is_stamp w) (Some (stamp_of w)) None
+
+-- One more digit, where there may be no such number.
+abbrev pub digit_said : ℕ → ℕ → Option ℕ
+digit_said value byte = cond (nat_le (with_digit value byte) stamp_limit) (Some (with_digit value byte)) None
+
+-- The number of a level: 0, 1, or 2 for x and z.
+abbrev pub number_of_level : Level → ℕ
+number_of_level Low = 0
+number_of_level High = 1
+number_of_level Open = 2
+
+abbrev pub numbers_of : List Level → List ℕ
+numbers_of levels = map number_of_level levels
+
+-- The level of a number.
+abbrev pub level_with : ℕ → Level
+level_with number = cond (number == 0) Low (cond (number == 1) High Open)
+
+abbrev pub levels_of : List ℕ → List Level
+levels_of numbers = map level_with numbers
 
 -- The level that a byte says: 0, 1, or 2 for x and z, which tell nothing; 3 where it says none.
 unfoldable pub level_of : ℕ → ℕ
@@ -61,6 +91,17 @@ level_set (level ∷ first ∷ rest) = level_of level
 -- The word is a scalar change.
 abbrev pub is_change : Word → Bool
 is_change w = nat_lt (level_set w) 3
+
+-- The number of a level that may be there, and 3 for none.
+abbrev pub level_said : Option Level → ℕ
+level_said None = 3
+level_said (Some level) = number_of_level level
+
+-- The scalar change that a word says, if it says one: its level and its code.
+pub record Says (w : Word) (level : Level) (code : Word) : Type 0 where
+  pub is_one : is_change w ≡ true
+  pub sets : number_of_level level ≡ level_set w
+  pub of : code ≡ drop 1 w
 
 -- What a word opens between the definitions' sections; the timescale stands once, and before the definitions end.
 unfoldable pub opened : Bool → Word → Phase

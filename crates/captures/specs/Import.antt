@@ -7,7 +7,7 @@ use Rattle.controller.specs.declared.answers.Answer.TheVariants.{OutsideSubset, 
 use Rattle.controller.specs.declared.sent.Sent.{Sent}
 use Rattle.lines.specs.Line.{lines_of}
 use Rattle.lines.specs.Writing.{Writing, refusing, wanting}
-use Rattle.captures.specs.declared.scan.Scan.{Scan}
+use Rattle.captures.specs.Falls.{Scan}
 use Rattle.captures.specs.Words.{words}
 use Rattle.captures.specs.Form.{is_whole}
 use Rattle.captures.specs.Definitions.{Head, blank_head, defined_by, lacks_code}

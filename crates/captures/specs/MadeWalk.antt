@@ -1,7 +1,9 @@
 -- The walk over a session's text that makes its capture: what is made so far. Only the code's own contracts cite these.
 -- Assumes nothing.
-use Rattle.std.specs.Prelude.{◌≡◌, ℕ, ◌+◌, List, [], ◌∷◌, length}
+use Rattle.std.specs.Prelude.{◌≡◌, ℕ, ◌+◌, false, List, [], ◌∷◌, length, Result, Ok, Err}
 use Rattle.controller.specs.declared.answers.Answer.{Answer}
+use Rattle.controller.specs.declared.answers.Answer.TheVariants.{Done}
+use Rattle.controller.specs.Answers.{is_done}
 use Rattle.controller.specs.declared.sent.Sent.{Sent}
 use Rattle.lines.specs.Session.{session_of}
 use Rattle.lines.specs.Text.{put, putting}
@@ -34,7 +36,8 @@ adding_pulses m before (t ∷ later) = adding_pulses (adding m (made_pulse (befo
 abbrev pub begun : List ℕ → Making
 begun out = making (length made_header) (putting (put 0 out) made_header).out
 
--- A session read to its end or its bad line: the answer, and its capture up to there.
-pub record Captured (session out : List ℕ) (answer : Answer) (size : ℕ) (after : List ℕ) : Type 0 where
-  pub ends : answer ≡ (session_of session).end
-  pub made : making size after ≡ adding_pulses (begun out) 1 (session_of session).sent
+-- A session read to its end, and its capture made; or the answer of its bad line.
+abbrev pub Captured : List ℕ → List ℕ → Result ℕ Answer → List ℕ → Type 0
+Captured session out (Ok size) after =
+    ((session_of session).end ≡ Done) × (making size after ≡ adding_pulses (begun out) 1 (session_of session).sent)
+Captured session out (Err answer) after = ((session_of session).end ≡ answer) × (is_done answer ≡ false)

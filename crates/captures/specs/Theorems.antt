@@ -1,8 +1,8 @@
 -- What is proved of captures: each theorem is a type here, and its proof stands in proofs/Theorems (request b).
 -- Assumes nothing.
-use Rattle.std.specs.Prelude.{◌≡◌, ℕ, ◌+◌, ◌*◌, ◌<◌, ◌≤◌, true, false, ◌⊎◌, List, [], ◌∷◌, ◌++◌, length, replicate}
+use Rattle.std.specs.Prelude.{◌≡◌, ℕ, ◌+◌, ◌*◌, ◌<◌, ◌≤◌, true, false, ◌⊎◌, List, [], ◌∷◌, ◌++◌, length, replicate, Result}
 use Rattle.controller.specs.Answers.{number_of, Row, Tells}
-use Rattle.lines.specs.declared.writer.Written.{Written}
+use Rattle.controller.specs.declared.answers.Answer.{Answer}
 use Rattle.lines.specs.Session.{session_of}
 use Rattle.lines.specs.Text.{bytes_of}
 use Rattle.lines.specs.Theorems.{NoSession}
@@ -54,7 +54,7 @@ CaptureAnswers = (session out : List ℕ) → Tells (number_of (capturing sessio
 -- No second answer fits: two outcomes that both meet the promise are one, and so are the buffers.
 abbrev pub OneImport : Type 0
 OneImport =
-    (capture out : List ℕ) (a b : Written) (x y : List ℕ)
+    (capture out : List ℕ) (a b : Result ℕ Answer) (x y : List ℕ)
     → Writes (importing capture out) out a x → Writes (importing capture out) out b y → (a ≡ b) × (x ≡ y)
 
 -- The definitions of a capture by hand; another scalar stands among them and is skipped.

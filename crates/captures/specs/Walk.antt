@@ -1,52 +1,61 @@
 -- Walks over a capture's text: where they stand, and what is left. Only the code's own contracts cite these.
 -- Assumes nothing.
-use Rattle.std.specs.Prelude.{◌≡◌, ℕ, ◌+◌, ◌-◌, ◌≤◌, Bool, true, false, cond, ◌&&◌, ◌||◌, List, [], ◌∷◌, length, take, drop, nat_le, nat_lt}
+use Rattle.std.specs.Prelude.{◌≡◌, ℕ, ◌+◌, Bool, true, false, cond, ◌&&◌, ◌||◌, List, [], ◌∷◌, length, map, nat_le, nat_lt, Option, Some, None, Result, Ok, Err}
+use Rattle.std.specs.Option.{is_some, unwrap_or}
+use Rattle.controller.specs.declared.answers.Answer.{Answer}
+use Rattle.controller.specs.Answers.{is_done}
 use Rattle.lines.specs.Line.{line}
 use Rattle.lines.specs.Text.{put, putting}
-use Rattle.captures.specs.declared.falls.Tally.{Tally}
-use Rattle.captures.specs.declared.definitions.Codes.{Codes}
-use Rattle.captures.specs.declared.definitions.Head as places
-use Rattle.captures.specs.declared.scan.Scan.{Scan}
+use denote.Ref.{Bor}
+use Rattle.captures.specs.declared.falls.Tally.{Tally as KeptTally}
+use Rattle.captures.specs.declared.definitions.Head.{Head as KeptHead}
+use Rattle.captures.specs.declared.scan.Scan.{Scan as KeptScan}
+use Rattle.captures.specs.declared.scan.Stamp.{Stamp as KeptStamp}
 use Rattle.captures.specs.Words.{Word, words}
-use Rattle.captures.specs.Form.{changes_come, stamp_limit}
+use Rattle.captures.specs.Form.{changes_come, number_of_level, numbers_of, stamp_limit}
 use Rattle.captures.specs.Definitions.{Head, blank_head, defined_by}
-use Rattle.captures.specs.Falls.{Fall, blank_scan, ends_stamp, scanned_by, falls_from}
+use Rattle.captures.specs.Falls.{Fall, Scan, blank_scan, ends_stamp, scanned_by, falls_from}
 use Rattle.captures.specs.Import.{kind_of, byte_of, wait_from, unknown_at}
 
--- The bytes of a text from one place up to another.
-abbrev pub span : ℕ → ℕ → List ℕ → List ℕ
-span from end text = take (end - from) (drop from text)
+-- Texts that are lent.
+abbrev pub Lent : Type 0
+Lent = List (Bor (List ℕ))
 
--- The word at a place ends here, in the text, and the words from there on are it and those behind it.
-pub record WordEnd (text : List ℕ) (from end : ℕ) : Type 0 where
-  pub further : from ≤ end
-  pub inside : end ≤ length text
-  pub stands : words (drop from text) ≡ span from end text ∷ words (drop (end + 1) text)
+-- The codes of the needed signals.
+abbrev pub codes_in : Lent → List Word
+codes_in codes = map (λ code. code.now) codes
 
--- Of these bounds, two by two, the bytes between them.
-unfoldable pub spans : List ℕ → List ℕ → List ℕ → List Word
-spans text [] ends = []
-spans text (start ∷ starts) [] = []
-spans text (start ∷ starts) (end ∷ ends) = span start end text ∷ spans text starts ends
-
--- The codes of the needed signals, as they stand in the text.
-abbrev pub spans_of : List ℕ → Codes → List Word
-spans_of text codes = spans text codes.starts codes.ends
-
--- The definitions as the code keeps them: by places in the text.
-abbrev pub head_in : List ℕ → places.Head → Head
-head_in text head =
-    record {
-      phase = head.phase;
-      code = span head.from head.end text;
-      codes = spans_of text head.codes;
-      twice = head.twice;
-    }
+-- The definitions as the code keeps them.
+abbrev pub head_in : KeptHead → Head
+head_in head =
+    record { phase = head.phase; code = head.code.now; codes = codes_in head.codes; twice = head.twice }
 
 -- The definitions of a text, read as far as they go: the codes, and whether a needed signal was declared twice.
-pub record HeadRead (text : List ℕ) (head : places.Head) : Type 0 where
-  pub codes : spans_of text head.codes ≡ (defined_by blank_head (words text)).codes
+pub record HeadRead (text : List ℕ) (head : KeptHead) : Type 0 where
+  pub codes : codes_in head.codes ≡ (defined_by blank_head (words text)).codes
   pub twice : head.twice ≡ (defined_by blank_head (words text)).twice
+
+-- A stamp, or 0 where none has come.
+abbrev pub stamp_in : Option KeptStamp → ℕ
+stamp_in None = 0
+stamp_in (Some last) = last.number
+
+-- E as it stood before a stamp, open where none has come.
+abbrev pub before_in : Option KeptStamp → ℕ
+before_in None = 2
+before_in (Some last) = number_of_level last.before
+
+-- What has been read of a capture, as the code keeps it.
+abbrev pub scan_in : KeptScan → Scan
+scan_in scan =
+    record {
+      phase = scan.phase;
+      levels = numbers_of scan.levels;
+      begun = is_some scan.stamp;
+      stamp = stamp_in scan.stamp;
+      before = before_in scan.stamp;
+      strange = scan.strange;
+    }
 
 -- With these levels.
 abbrev pub with_levels : Scan → List ℕ → Scan
@@ -63,6 +72,24 @@ with_levels scan levels =
 -- This is a stamp that ends the one before it.
 abbrev pub ends_by : Scan → ℕ → Bool
 ends_by scan stamp = changes_come scan.phase && (nat_le stamp stamp_limit && ends_stamp scan stamp)
+
+-- The same, where there may be no stamp.
+abbrev pub ends_at : Scan → Option ℕ → Bool
+ends_at scan None = false
+ends_at scan (Some stamp) = changes_come scan.phase && ends_stamp scan stamp
+
+-- What is counted of the falls: whether there was one, the last one's stamp, whether a needed line was at x or z, and the length of
+-- their lines.
+pub record Tally : Type 0 where
+  pub fell : Bool
+  pub last : ℕ
+  pub unknown : Bool
+  pub length : ℕ
+
+-- The same, as the code keeps it.
+abbrev pub tally_in : KeptTally → Tally
+tally_in tally =
+    record { fell = is_some tally.last; last = unwrap_or tally.last 0; unknown = tally.unknown; length = tally.length }
 
 -- The stamp that a transfer's wait counts from: that of the fall before, or its own where there is none.
 abbrev pub since : Tally → ℕ → ℕ
@@ -117,3 +144,7 @@ fall_with stamp levels = record { stamp = stamp; levels = levels }
 pub record Walked (text : List ℕ) (codes : List Word) (out : List ℕ) (scan : Scan) (tally : Tally) (after : List ℕ) : Type 0 where
   pub seen : scan ≡ scanned_by (words text) codes blank_scan (words text)
   pub heard : told tally after ≡ telling (told no_tally out) (falls_from (words text) codes blank_scan (words text))
+
+-- What is told of a capture that is judged: nothing where it is done, else the refusal.
+abbrev pub verdict_of : Answer → Result Unit Answer
+verdict_of answer = cond (is_done answer) (Ok tt) (Err answer)

@@ -1,25 +1,22 @@
 // What is at fault in a capture that is refused, and where.
-ghost use Rattle.std.specs.Prelude.{◌≡◌, ◌&&◌, if◌then◌else◌, nat_le};
+ghost use Rattle.std.specs.Prelude.{◌≡◌, ◌&&◌};
 ghost use Rattle.captures.specs.Words.{words};
-ghost use Rattle.captures.specs.Form.{changes_come, stamp_limit};
 ghost use Rattle.captures.specs.Falls.{blank_scan};
-ghost use Rattle.captures.specs.Faults.{fault_of, falls_unknown, is_undeclared, lacks_line, unknown_from, unknown_of, wrong_in};
-ghost use Rattle.captures.specs.Faults.{is_unfinished as isUnfinishedOf};
-ghost use Rattle.captures.specs.Faults.{is_wrong as isWrongOf};
+ghost use Rattle.captures.specs.Faults.{falls_unknown, fault_of, fault_said, is_undeclared, is_wrong, unknown_from, unknown_of, unknown_told, wrong_in};
 ghost use Rattle.captures.specs.Promises.{LacksSignalPromise, UnknownFallPromise, WrongWordPromise};
-ghost use Rattle.captures.specs.Table.{Sound};
-ghost use Rattle.captures.specs.Walk.{spans_of};
+ghost use Rattle.captures.specs.Walk.{codes_in, scan_in};
 
-use crate::definitions::{Codes, code_at, define};
+use crate::changes::Capture;
+use crate::definitions::Head;
 use crate::falls::unknown_at;
-use crate::form::{Phase, asks, level_set, stamp_of};
-use crate::scan::{Scan, is_strange, scan_word};
-use crate::session::{blank_head, blank_scan, ends, read_head};
-use crate::table::SHORT_CODES;
-use crate::words::{part, word_end};
+use crate::form::{Level, Phase, change_of, stamp_of};
+use crate::scan::Scan;
+use crate::session::read_head;
+use crate::table::blank_table;
+use crate::words::words_of;
 
-// What is wrong with a word; where nothing is, the text is only unfinished.
-#[derive(Clone, Copy)]
+// What is wrong with a text: a word, or only that the text is unfinished.
+#[derive(Clone, Copy, PartialEq, Eq)]
 pub enum Fault {
     Unfinished,
     Misplaced,
@@ -34,89 +31,56 @@ pub struct Wrong {
     pub place: usize,
 }
 
+// Whether no word can stand here any more.
 fn is_wrong(phase: Phase) -> bool
-    ensures { result ≡ isWrongOf phase }
+    ensures { result ≡ is_wrong phase }
 {
-    match phase {
-        Phase::Section(_) => false,
-        Phase::Scale => false,
-        Phase::ScaleUnit => false,
-        Phase::ScopeKind(_) => false,
-        Phase::ScopeName(_) => false,
-        Phase::VarType(_) => false,
-        Phase::VarSize(_) => false,
-        Phase::VarCode(_) => false,
-        Phase::VarName(_) => false,
-        Phase::Close(_) => false,
-        Phase::Ending => false,
-        Phase::Changes => false,
-        Phase::Dump => false,
-        Phase::Wrong => true,
-    }
+    matches!(phase, Phase::Wrong)
 }
 
 // Whether a word changes a code that no section declares.
-fn is_undeclared(text: &[u8], table: &[u8], phase: Phase, word: &[u8]) -> bool
-    requires { Sound table.now (words text.now) }
-    ensures { result ≡ is_undeclared (words text.now) phase word.now }
+fn is_undeclared(capture: &Capture, phase: Phase, word: &[u8]) -> bool
+    ensures { result ≡ is_undeclared (words capture.now.text.now) phase word.now }
 {
-    if asks(phase) < 3 {
-        return false;
+    match change_of(word) {
+        Some(change) => phase.changes_come() && capture.is_strange(change.code),
+        None => false,
     }
-    if 3 <= level_set(word) {
-        return false;
-    }
-    is_strange(text, table, false, part(word, 1, word.len()))
 }
 
-fn fault_of(wrong: bool, twice: bool, undeclared: bool) -> Fault
-    ensures { result ≡ fault_of wrong twice undeclared }
+// What is wrong with a word, if anything is.
+#[tactic(auto, unfolding(crate::specs::Faults::fault_of))]
+fn fault_of(wrong: bool, twice: bool, undeclared: bool) -> Option<Fault>
+    ensures { result ≡ fault_said (fault_of wrong twice undeclared) }
 {
     if wrong {
-        return Fault::Misplaced;
-    }
-    if twice {
-        return Fault::Twice;
-    }
-    if undeclared {
-        return Fault::Undeclared;
-    }
-    Fault::Unfinished
-}
-
-fn is_unfinished(fault: Fault) -> bool
-    ensures { result ≡ isUnfinishedOf fault }
-{
-    match fault {
-        Fault::Unfinished => true,
-        Fault::Misplaced => false,
-        Fault::Twice => false,
-        Fault::Undeclared => false,
+        Some(Fault::Misplaced)
+    } else if twice {
+        Some(Fault::Twice)
+    } else if undeclared {
+        Some(Fault::Undeclared)
+    } else {
+        None
     }
 }
 
-// The first word at fault of a text whose declared codes the table knows.
-fn find_wrong(text: &[u8], table: &[u8]) -> Wrong
-    requires { Sound table.now (words text.now) }
-    ensures { result ≡ wrong_in text.now }
+// The first word at fault of a capture.
+fn find_wrong(capture: &Capture) -> Wrong
+    ensures { result ≡ wrong_in capture.now.text.now }
 {
-    let mut head = blank_head();
-    let mut from = 0;
-    while from < text.len() {
-        let end = word_end(text, from);
-        let phase = head.phase;
-        let undeclared = is_undeclared(text, table, phase, part(text, from, end));
-        head = define(text, head, from, end);
-        let next = head.phase;
-        let fault = fault_of(is_wrong(next), head.twice, undeclared);
-        if !is_unfinished(fault) {
-            return Wrong { fault, place: from };
+    let mut head = Head::new();
+    let mut place = 0;
+    for word in words_of(capture.text) {
+        let undeclared = is_undeclared(capture, head.phase, word);
+        head.define(word);
+        if let Some(fault) = fault_of(is_wrong(head.phase), head.twice, undeclared) {
+            return Wrong { fault, place };
         }
-        from = end + 1;
+        place += word.len() + 1;
     }
     Wrong {
         fault: Fault::Unfinished,
-        place: from,
+        place,
     }
 }
 
@@ -124,112 +88,80 @@ fn find_wrong(text: &[u8], table: &[u8]) -> Wrong
 pub fn wrong_word(capture: &[u8]) -> Wrong
     ensures { WrongWordPromise capture.now result }
 {
-    let mut table = [12u8; SHORT_CODES];
-    read_head(capture, &mut table);
-    find_wrong(capture, &table)
+    let mut table = blank_table();
+    let Head { codes, .. } = read_head(capture, &mut table);
+    find_wrong(&Capture {
+        text: capture,
+        codes,
+        table: &table,
+    })
 }
 
 // Whether the needed signal of a line, 0 to 10, is not declared.
+#[tactic(auto, unfolding(crate::specs::Faults::lacks_line))]
 pub fn lacks_signal(capture: &[u8], line: usize) -> bool
     ensures { LacksSignalPromise capture.now line result }
 {
-    if 11 <= line {
-        return false;
-    }
-    let mut table = [12u8; SHORT_CODES];
+    let mut table = blank_table();
     let head = read_head(capture, &mut table);
-    let codes = head.codes;
-    code_at(capture, codes, line).len() == 0
+    line < 11 && head.codes[line].is_empty()
 }
 
-// Whether both are true.
-fn both(one: bool, other: bool) -> bool
-    ensures { result ≡ one && other }
-{
-    if one {
-        return other;
-    }
-    false
-}
-
-// The first fall with x or z on a needed line: its stamp, where that stands in the text, and the levels of the eleven lines.
+// A fall with x or z on a needed line: where its stamp stands in the text, the stamp, and the levels of the eleven lines.
 #[derive(Clone, Copy)]
 pub struct Unknown {
-    pub found: bool,
     pub place: usize,
     pub stamp: u32,
-    pub levels: [u8; 11],
+    pub levels: [Level; 11],
 }
 
-// Whether E falls at a stamp's end with a needed line at x or z.
-fn falls_unknown(scan: Scan) -> bool
-    ensures { result ≡ falls_unknown scan }
+// Where a stamp ends: the fall there, if there is one with x or z on a needed line.
+fn fall_unknown(ended: bool, scan: &Scan, place: usize) -> Option<Unknown>
+    ensures { result
+        ≡ unknown_told (unknown_of (ended && falls_unknown (scan_in scan.now)) (scan_in scan.now) place) }
 {
-    let levels = scan.levels;
-    if scan.before != 1 {
-        return false;
-    }
-    if levels[2] != 0 {
-        return false;
-    }
-    unknown_at(levels)
-}
-
-fn fall_at(found: bool, scan: Scan, at: usize) -> Unknown
-    ensures { result ≡ unknown_of found scan at }
-{
-    let levels = scan.levels;
-    Unknown {
-        found,
-        place: at,
-        stamp: scan.stamp,
-        levels,
+    match scan.fall() {
+        Some(stamp) if ended && unknown_at(&scan.levels) => Some(Unknown {
+            place,
+            stamp,
+            levels: scan.levels,
+        }),
+        _ => None,
     }
 }
 
-// Where the stamp stands that holds after a word at this place.
-fn stamp_place(phase: Phase, stamp: u64, place: usize, at: usize) -> usize
-    ensures { result ≡ (if changes_come phase && nat_le stamp stamp_limit then place else at) }
+// The first such fall of a capture.
+fn find_unknown(capture: &Capture) -> Option<Unknown>
+    ensures { result
+        ≡ unknown_told (unknown_from (words capture.now.text.now) (codes_in capture.now.codes) blank_scan 0 0
+        (words capture.now.text.now)) }
 {
-    if asks(phase) < 3 {
-        return at;
-    }
-    if 4_294_967_295 < stamp {
-        return at;
-    }
-    place
-}
-
-// The first such fall of a text, its definitions read.
-fn find_unknown(text: &[u8], codes: Codes, table: &[u8]) -> Unknown
-    requires { Sound table.now (words text.now) }
-    ensures { result ≡ unknown_from (words text.now) (spans_of text.now codes) blank_scan 0 0
-        (words text.now) }
-{
-    let mut scan = blank_scan();
+    let mut scan = Scan::new();
     let mut at = 0;
-    let mut from = 0;
-    while from < text.len() {
-        let end = word_end(text, from);
-        let word = part(text, from, end);
+    let mut place = 0;
+    for word in words_of(capture.text) {
         let stamp = stamp_of(word);
-        if both(ends(scan, stamp), falls_unknown(scan)) {
-            return fall_at(true, scan, at);
+        if let Some(fall) = fall_unknown(scan.ends_at(stamp), &scan, at) {
+            return Some(fall);
         }
-        let phase = scan.phase;
-        at = stamp_place(phase, stamp, from, at);
-        scan = scan_word(text, codes, table, scan, word, stamp);
-        from = end + 1;
+        if scan.phase.changes_come() && stamp.is_some() {
+            at = place;
+        }
+        scan = capture.scan_word(scan, word, stamp);
+        place += word.len() + 1;
     }
-    fall_at(falls_unknown(scan), scan, at)
+    fall_unknown(true, &scan, at)
 }
 
 // Where E falls with x or z on a needed line.
-pub fn unknown_fall(capture: &[u8]) -> Unknown
+pub fn unknown_fall(capture: &[u8]) -> Option<Unknown>
     ensures { UnknownFallPromise capture.now result }
 {
-    let mut table = [12u8; SHORT_CODES];
-    let head = read_head(capture, &mut table);
-    let codes = head.codes;
-    find_unknown(capture, codes, &table)
+    let mut table = blank_table();
+    let Head { codes, .. } = read_head(capture, &mut table);
+    find_unknown(&Capture {
+        text: capture,
+        codes,
+        table: &table,
+    })
 }

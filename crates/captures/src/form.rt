@@ -1,14 +1,14 @@
 // The form of a capture's text, word by word: what may stand next.
-ghost use Rattle.std.specs.Prelude.{◌≡◌, ◌≤◌, if◌then◌else◌};
-ghost use Rattle.captures.specs.Form.{after, asked, is_scope_kind, is_var_type, level_of, level_set, opened, past, stamp_of};
-ghost use Rattle.captures.specs.Form.{changing, no_stamp, with_digit};
+ghost use Rattle.std.specs.Prelude.{◌≡◌, false, MatchOption};
+ghost use Rattle.captures.specs.Form.{after, changes_come, changing, code_comes, is_change, is_scope_kind, is_var_type, is_whole};
+ghost use Rattle.captures.specs.Form.{digit_said, level_of, level_said, number_said, name_comes, opened, past, Says, stamp_said};
 ghost use Rattle.captures.specs.declared.form.Phase.TheVariants as Phase;
 
-use crate::words::{is_plain, place_in, same};
+use crate::words::{is_plain, place_in};
 
 // What comes next: a section of the definitions, a part of one, stamps and changes, or changes and an end. The bool says whether
 // the timescale has been.
-#[derive(Clone, Copy)]
+#[derive(Clone, Copy, PartialEq, Eq)]
 pub enum Phase {
     Section(bool),
     Scale,
@@ -26,20 +26,48 @@ pub enum Phase {
     Wrong,
 }
 
-// One of two phases.
-fn pick(test: bool, yes: Phase, no: Phase) -> Phase
-    ensures { result ≡ (if test then yes else no) }
-{
-    if test {
-        return yes;
+impl Phase {
+    // Whether a code comes next.
+    pub fn code_comes(self) -> bool
+        ensures { result ≡ code_comes self }
+    {
+        matches!(self, Phase::VarCode(_))
     }
-    no
+
+    // Whether the definitions are over: changes can come.
+    pub fn changes_come(self) -> bool
+        ensures { result ≡ changes_come self }
+    {
+        matches!(self, Phase::Changes | Phase::Dump)
+    }
+
+    // Whether the text can end here.
+    pub fn is_whole(self) -> bool
+        ensures { result ≡ is_whole self }
+    {
+        matches!(self, Phase::Changes)
+    }
+}
+
+// The level of a line: at 0, at 1, or at x or z, which tell nothing.
+#[derive(Clone, Copy, PartialEq, Eq)]
+pub enum Level {
+    Low,
+    High,
+    Open,
+}
+
+// A scalar change: a level and the code that gets it.
+#[derive(Clone, Copy)]
+pub struct Change<'a> {
+    pub level: Level,
+    pub code: &'a [u8],
 }
 
 fn is_scope_kind(word: &[u8]) -> bool
     ensures { result ≡ is_scope_kind word.now }
 {
-    place_in(b"module task function begin fork", word) < 5
+    place_in(b"module task function begin fork", word).is_some()
 }
 
 fn is_var_type(word: &[u8]) -> bool
@@ -47,189 +75,164 @@ fn is_var_type(word: &[u8]) -> bool
 {
     let types =
         b"event integer parameter reg supply0 supply1 time tri triand trior trireg tri0 tri1 wand wire wor";
-    place_in(types, word) < 16
+    place_in(types, word).is_some()
 }
 
 // What a word opens between the definitions' sections.
+#[tactic(auto, using(crate::proofs::Laws::Words::same_pointwise), unfolding(crate::specs::Form::opened))]
 fn open(scaled: bool, word: &[u8]) -> Phase
     ensures { result ≡ opened scaled word.now }
 {
-    if same(word, b"$scope") {
-        return Phase::ScopeKind(scaled);
+    if word == b"$scope".as_slice() {
+        Phase::ScopeKind(scaled)
+    } else if word == b"$var".as_slice() {
+        Phase::VarType(scaled)
+    } else if word == b"$upscope".as_slice() {
+        Phase::Close(scaled)
+    } else if word == b"$timescale".as_slice() {
+        if scaled { Phase::Wrong } else { Phase::Scale }
+    } else if word == b"$enddefinitions".as_slice() {
+        if scaled { Phase::Ending } else { Phase::Wrong }
+    } else {
+        Phase::Wrong
     }
-    if same(word, b"$var") {
-        return Phase::VarType(scaled);
-    }
-    if same(word, b"$upscope") {
-        return Phase::Close(scaled);
-    }
-    if same(word, b"$timescale") {
-        return pick(scaled, Phase::Wrong, Phase::Scale);
-    }
-    if same(word, b"$enddefinitions") {
-        return pick(scaled, Phase::Ending, Phase::Wrong);
-    }
-    Phase::Wrong
 }
 
+#[tactic(auto, using(crate::proofs::Laws::Words::same_pointwise), unfolding(crate::specs::Form::after))]
 fn scale(word: &[u8]) -> Phase
     ensures { result ≡ after Phase.Scale word.now }
 {
-    if same(word, b"1us") {
-        return Phase::Close(true);
+    if word == b"1us".as_slice() {
+        Phase::Close(true)
+    } else if word == b"1".as_slice() {
+        Phase::ScaleUnit
+    } else {
+        Phase::Wrong
     }
-    pick(same(word, b"1"), Phase::ScaleUnit, Phase::Wrong)
 }
 
-// One more digit behind a number, 4,294,967,296 where it is no digit or takes the number past the limit.
-fn with_digit(value: u64, byte: u8) -> u64
-    requires { value ≤ no_stamp }
-    ensures { result ≡ with_digit value byte }
+// One more digit behind a number; none where it is no digit or takes the number past the limit.
+#[tactic(auto, using(crate::proofs::Laws::Form::digit_other, crate::proofs::Laws::Form::digit_large, crate::proofs::Laws::Form::digit_more))]
+fn with_digit(value: u32, byte: u8) -> Option<u32>
+    ensures { result ≡ digit_said value byte }
 {
-    if byte < b'0' {
-        return 4_294_967_296;
+    if byte.is_ascii_digit() {
+        u32::try_from(value as u64 * 10 + (byte - b'0') as u64).ok()
+    } else {
+        None
     }
-    if b'9' < byte {
-        return 4_294_967_296;
-    }
-    let more = value * 10 + (byte - b'0') as u64;
-    if more <= 4_294_967_295 {
-        return more;
-    }
-    4_294_967_296
 }
 
-// The stamp that a word says, and 4,294,967,296 where it says none.
-pub fn stamp_of(word: &[u8]) -> u64
-    ensures { result ≡ stamp_of word.now }
+// The number that digits say, at most 4,294,967,295.
+fn number_of(digits: &[u8]) -> Option<u32>
+    ensures { result ≡ number_said digits.now }
 {
-    if word.len() < 2 {
-        return 4_294_967_296;
-    }
-    if word[0] != b'#' {
-        return 4_294_967_296;
-    }
     let mut value = 0;
-    let mut i = 1;
-    while i < word.len() {
-        value = with_digit(value, word[i]);
-        i += 1;
+    for byte in digits {
+        value = with_digit(value, *byte)?;
     }
-    value
+    Some(value)
 }
 
-fn level_of(byte: u8) -> u8
-    ensures { result ≡ level_of byte }
+// The stamp that a word says: `#` and a number.
+#[tactic(auto, using(crate::proofs::Laws::Form::stamp_none, crate::proofs::Laws::Form::stamp_short, crate::proofs::Laws::Form::stamp_other, crate::proofs::Laws::Form::stamp_number))]
+pub fn stamp_of(word: &[u8]) -> Option<u32>
+    ensures { result ≡ stamp_said word.now }
+{
+    let (first, digits) = word.split_first()?;
+    if *first == b'#' && !digits.is_empty() {
+        number_of(digits)
+    } else {
+        None
+    }
+}
+
+#[tactic(auto, unfolding(crate::specs::Form::level_of))]
+fn level_of(byte: u8) -> Option<Level>
+    ensures { level_said result ≡ level_of byte }
 {
     match byte {
-        b'0' => 0,
-        b'1' => 1,
-        b'x' => 2,
-        b'X' => 2,
-        b'z' => 2,
-        b'Z' => 2,
-        _ => 3,
+        b'0' => Some(Level::Low),
+        b'1' => Some(Level::High),
+        b'x' | b'X' | b'z' | b'Z' => Some(Level::Open),
+        _ => None,
     }
 }
 
-// The level that a word sets, and 3 where it is no scalar change.
-pub fn level_set(word: &[u8]) -> u8
-    ensures { result ≡ level_set word.now }
+// The scalar change that a word says.
+#[tactic(auto, using(crate::proofs::Laws::Form::change_none, crate::proofs::Laws::Form::change_short, crate::proofs::Laws::Form::change_other, crate::proofs::Laws::Form::change_says))]
+pub fn change_of(word: &[u8]) -> Option<Change<'_>>
+    ensures { MatchOption result (is_change word.now ≡ false) (λ change. Says word.now change.level change.code.now) }
 {
-    if word.len() < 2 {
-        return 3;
+    let (first, code) = word.split_first()?;
+    let level = level_of(*first)?;
+    if code.is_empty() {
+        None
+    } else {
+        Some(Change { level, code })
     }
-    level_of(word[0])
 }
 
 // What stands after a stamp or a change.
-fn change(word: &[u8], stamps: bool, next: Phase) -> Phase
+#[tactic(auto, unfolding(crate::specs::Form::changing))]
+fn after_change(word: &[u8], stamps: bool, next: Phase) -> Phase
     ensures { result ≡ changing word.now stamps next }
 {
-    if level_set(word) < 3 {
-        return next;
+    if change_of(word).is_some() || stamps && stamp_of(word).is_some() {
+        next
+    } else {
+        Phase::Wrong
     }
-    if stamp_of(word) <= 4_294_967_295 {
-        return pick(stamps, next, Phase::Wrong);
-    }
-    Phase::Wrong
 }
 
 // What stands after a word that is not empty and plain.
+#[tactic(auto, using(crate::proofs::Laws::Words::same_pointwise), unfolding(crate::specs::Form::after))]
 fn after_word(phase: Phase, word: &[u8]) -> Phase
     ensures { result ≡ after phase word.now }
 {
-    let end = same(word, b"$end");
+    let end = word == b"$end".as_slice();
     match phase {
         Phase::Section(scaled) => open(scaled, word),
         Phase::Scale => scale(word),
-        Phase::ScaleUnit => pick(same(word, b"us"), Phase::Close(true), Phase::Wrong),
-        Phase::ScopeKind(scaled) => pick(
-            is_scope_kind(word),
-            Phase::ScopeName(scaled),
-            Phase::Wrong,
-        ),
-        Phase::ScopeName(scaled) => pick(end, Phase::Wrong, Phase::Close(scaled)),
-        Phase::VarType(scaled) => pick(is_var_type(word), Phase::VarSize(scaled), Phase::Wrong),
-        Phase::VarSize(scaled) => pick(same(word, b"1"), Phase::VarCode(scaled), Phase::Wrong),
-        Phase::VarCode(scaled) => pick(end, Phase::Wrong, Phase::VarName(scaled)),
-        Phase::VarName(scaled) => pick(end, Phase::Wrong, Phase::Close(scaled)),
-        Phase::Close(scaled) => pick(end, Phase::Section(scaled), Phase::Wrong),
-        Phase::Ending => pick(end, Phase::Changes, Phase::Wrong),
-        Phase::Changes => pick(
-            same(word, b"$dumpvars"),
-            Phase::Dump,
-            change(word, true, Phase::Changes),
-        ),
-        Phase::Dump => pick(end, Phase::Changes, change(word, false, Phase::Dump)),
-        Phase::Wrong => Phase::Wrong,
+        Phase::ScaleUnit if word == b"us".as_slice() => Phase::Close(true),
+        Phase::ScopeKind(scaled) if is_scope_kind(word) => Phase::ScopeName(scaled),
+        Phase::ScopeName(scaled) if !end => Phase::Close(scaled),
+        Phase::VarType(scaled) if is_var_type(word) => Phase::VarSize(scaled),
+        Phase::VarSize(scaled) if word == b"1".as_slice() => Phase::VarCode(scaled),
+        Phase::VarCode(scaled) if !end => Phase::VarName(scaled),
+        Phase::VarName(scaled) if !end => Phase::Close(scaled),
+        Phase::Close(scaled) if end => Phase::Section(scaled),
+        Phase::Ending if end => Phase::Changes,
+        Phase::Changes if word == b"$dumpvars".as_slice() => Phase::Dump,
+        Phase::Changes => after_change(word, true, Phase::Changes),
+        Phase::Dump if end => Phase::Changes,
+        Phase::Dump => after_change(word, false, Phase::Dump),
+        _ => Phase::Wrong,
     }
 }
 
 // The same, where an empty word says nothing and a byte outside 21h to 7Eh is wrong.
+#[tactic(auto, unfolding(crate::specs::Form::past))]
 pub fn pass(phase: Phase, word: &[u8]) -> Phase
     ensures { result ≡ past phase word.now }
 {
-    if word.len() == 0 {
-        return phase;
+    if word.is_empty() {
+        phase
+    } else if is_plain(word) {
+        after_word(phase, word)
+    } else {
+        Phase::Wrong
     }
-    if is_plain(word) {
-        return after_word(phase, word);
-    }
-    Phase::Wrong
 }
 
 // The same, where the stamp that the word says is known: where stamps come, one leaves us in the phase.
-pub fn pass_stamp(phase: Phase, word: &[u8], stamp: u64) -> Phase
-    requires { stamp ≡ stamp_of word.now }
+pub fn pass_stamp(phase: Phase, word: &[u8], stamp: Option<u32>) -> Phase
+    requires { stamp ≡ stamp_said word.now }
     ensures { result ≡ past phase word.now }
 {
-    if stamp <= 4_294_967_295 {
-        if asks(phase) == 3 {
-            return phase;
-        }
-    }
-    pass(phase, word)
-}
-
-// What a phase asks for: a code (1), a name (2), stamps and changes (3), or changes and an end (4).
-pub fn asks(phase: Phase) -> u8
-    ensures { result ≡ asked phase }
-{
-    match phase {
-        Phase::Section(_) => 0,
-        Phase::Scale => 0,
-        Phase::ScaleUnit => 0,
-        Phase::ScopeKind(_) => 0,
-        Phase::ScopeName(_) => 0,
-        Phase::VarType(_) => 0,
-        Phase::VarSize(_) => 0,
-        Phase::VarCode(_) => 1,
-        Phase::VarName(_) => 2,
-        Phase::Close(_) => 0,
-        Phase::Ending => 0,
-        Phase::Changes => 3,
-        Phase::Dump => 4,
-        Phase::Wrong => 0,
+    if stamp.is_some() && phase.is_whole() {
+        phase
+    } else {
+        pass(phase, word)
     }
 }

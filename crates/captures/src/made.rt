@@ -1,22 +1,15 @@
 // A session as a capture: one E pulse a transfer. The lines are read once to see how the session ends and to measure the capture,
 // and once more to write it.
 ghost use Rattle.std.specs.Prelude.{◌≡◌, ◌≤◌, length};
-ghost use Rattle.lines.specs.Session.{sent_of};
 ghost use Rattle.lines.specs.Text.{put, putting};
 ghost use Rattle.captures.specs.Made.{made_change, made_header, made_lines, made_pulse, made_stamp};
 ghost use Rattle.captures.specs.MadeWalk.{Captured, pulse_size};
 ghost use Rattle.captures.specs.Promises.{CapturePromise};
 
 use crate::falls::add_up;
-use controller::{Answer, Sent, is_done};
-use lines::{Line, Written, first, hex_digit, put_byte, put_number, put_text, read_line};
-
-// How a session ends, done or its bad line's answer, and the length of the capture up to there.
-#[derive(Clone, Copy)]
-pub struct Reached {
-    pub answer: Answer,
-    pub length: usize,
-}
+use crate::words::behind;
+use controller::{Answer, Sent};
+use lines::{first, hex_digit, put_byte, put_number, put_text, read_line};
 
 // Puts what fits of the definitions at the start; returns their length.
 fn put_header(out: &mut [u8]) -> usize
@@ -81,7 +74,7 @@ fn put_pulse(stamp: u32, sent: Sent, out: &mut [u8], at: usize) -> usize
         × (out.new ≡ (putting (put at out.old) (made_pulse stamp sent)).out) }
 {
     let mut text = [0u8; 60];
-    let lines = put_stamp(std::num::wrapping_sub_u32(stamp, 1), &mut text, 0);
+    let lines = put_stamp(stamp.wrapping_sub(1), &mut text, 0);
     let up = put_lines(sent, &mut text, lines);
     let fall = put_change(1, b'c', &mut text, up);
     let down = put_stamp(stamp, &mut text, fall);
@@ -90,59 +83,30 @@ fn put_pulse(stamp: u32, sent: Sent, out: &mut [u8], at: usize) -> usize
     length
 }
 
-fn sent_of(line: Line) -> Sent
-    ensures { result ≡ sent_of line }
-{
-    Sent {
-        kind: line.kind,
-        byte: line.byte,
-        wait: line.wait,
-    }
-}
-
-// Reads a session to its end or its bad line, and puts what fits of its capture into the buffer. The first fall is at stamp 1 and
-// the first wait, so that the rise before it is at no stamp below 0.
-fn walk(session: &[u8], out: &mut [u8]) -> Reached
-    ensures { Captured session.now out.old result.answer result.length out.new }
+// Reads a session to its end or its bad line, and puts what fits of its capture into the buffer: the capture's length, or the
+// bad line's answer. The first fall is at stamp 1 and the first wait, so that the rise before it is at no stamp below 0.
+fn walk(session: &[u8], out: &mut [u8]) -> Result<usize, Answer>
+    ensures { Captured session.now out.old result out.new }
 {
     let mut length = put_header(out);
-    let mut from = 0;
+    let mut rest = session;
     let mut stamp = 1u32;
-    while from < session.len() {
-        let line = read_line(&session[from..]);
-        let answer = line.answer;
-        if !is_done(answer) {
-            return Reached { answer, length };
-        }
-        stamp = std::num::wrapping_add_u32(stamp, line.wait);
-        let sent = sent_of(line);
-        length = add_up(length, put_pulse(stamp, sent, out, length));
-        from += line.length;
+    while !rest.is_empty() {
+        let line = read_line(rest).map_err(|bad| bad.answer)?;
+        stamp = stamp.wrapping_add(line.sent.wait);
+        length = add_up(length, put_pulse(stamp, line.sent, out, length));
+        rest = behind(rest, line.length);
     }
-    Reached {
-        answer: Answer::Done,
-        length,
-    }
+    Ok(length)
 }
 
-// A session's text as a capture.
-pub fn capture(session: &[u8], out: &mut [u8]) -> Written
+// A session's text as a capture: its length, or the refusal.
+pub fn capture(session: &[u8], out: &mut [u8]) -> Result<usize, Answer>
     ensures { CapturePromise session.now out.old result out.new }
 {
-    let seen = walk(session, &mut []);
-    let answer = seen.answer;
-    if !is_done(answer) {
-        return Written { answer, length: 0 };
+    let length = walk(session, &mut [])?;
+    if out.len() < length {
+        return Err(Answer::OutputShort);
     }
-    if out.len() < seen.length {
-        return Written {
-            answer: Answer::OutputShort,
-            length: 0,
-        };
-    }
-    walk(session, out);
-    Written {
-        answer: Answer::Done,
-        length: seen.length,
-    }
+    walk(session, out)
 }

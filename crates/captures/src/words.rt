@@ -1,96 +1,75 @@
 // The words of a text.
-ghost use Rattle.std.specs.Prelude.{◌≡◌, ◌<◌, length};
-ghost use Rattle.captures.specs.Words.{is_blank, is_plain, place_in, words};
-ghost use Rattle.captures.specs.Words.{same as sameWord};
-ghost use Rattle.captures.specs.Walk.{WordEnd, span};
+ghost use Rattle.std.specs.Prelude.{◌≡◌, drop, position};
+ghost use Rattle.std.specs.List.{position_or_len};
+ghost use Rattle.std.specs.Iterator.{YieldsFirstRef, item_count};
+ghost use Rattle.captures.specs.Words.{is_blank, is_plain, same, words};
 
 // Whether a byte parts words: space, tab, newline or carriage return.
+#[tactic(auto, unfolding(crate::specs::Words::is_blank))]
 fn is_blank(byte: u8) -> bool
     ensures { result ≡ is_blank byte }
 {
-    if byte == b' ' {
-        return true;
-    }
-    if byte == b'\t' {
-        return true;
-    }
-    if byte == b'\n' {
-        return true;
-    }
-    if byte == b'\r' {
-        return true;
-    }
-    false
+    matches!(byte, b' ' | b'\t' | b'\n' | b'\r')
 }
 
-// Where the word that begins at a place ends: at a blank, or at the text's end.
-pub fn word_end(text: &[u8], from: usize) -> usize
-    requires { from < length text.now }
-    ensures { WordEnd text.now from result }
+// Where the first word of a text ends: at a blank, or at the text's end.
+fn word_end(text: &[u8]) -> usize
+    ensures { result ≡ position_or_len is_blank text.now }
 {
-    let mut end = from;
-    while end < text.len() {
-        if is_blank(text[end]) {
-            return end;
+    text.iter()
+        .position(|byte| is_blank(*byte))
+        .unwrap_or(text.len())
+}
+
+// What is left of some bytes without so many at their start.
+pub fn behind(bytes: &[u8], start: usize) -> &[u8]
+    ensures { result.now ≡ drop start bytes.now }
+{
+    bytes.get(start..).unwrap_or(&[])
+}
+
+// The words of a text that are still to come.
+#[derive(Clone, Drop)]
+pub struct Words<'a> {
+    rest: &'a [u8],
+}
+
+impl<'a> Iterator for Words<'a> {
+    type Item = &'a [u8];
+
+    ghost next_gives = { YieldsFirstRef (λ w. words w.rest.now) };
+
+    ghost remaining = { item_count (λ w. words w.rest.now) };
+
+    fn next(&mut self) -> Option<&'a [u8]> {
+        if self.rest.is_empty() {
+            return None;
         }
-        end += 1;
+        let text = self.rest;
+        let end = word_end(text);
+        self.rest = behind(text, end + 1);
+        Some(&text[..end])
     }
-    end
 }
 
-// The bytes from one place up to another; those that are there, where one is past the end.
-pub fn part(text: &[u8], from: usize, end: usize) -> &[u8]
-    ensures { result.now ≡ span from end text.now }
+// The words of a text, each up to a blank or to the text's end.
+pub fn words_of(text: &[u8]) -> Words<'_>
+    ensures { result.rest.now ≡ text.now }
 {
-    if end < from {
-        return &text[..0];
-    }
-    if text.len() < from {
-        return &text[..0];
-    }
-    if text.len() < end {
-        return &text[from..];
-    }
-    &text[from..end]
-}
-
-// Whether two words are the same, byte for byte.
-pub fn same(word: &[u8], other: &[u8]) -> bool
-    ensures { result ≡ sameWord word.now other.now }
-{
-    check::same(word, other)
+    Words { rest: text }
 }
 
 // Whether every byte of a word is one of 21h to 7Eh.
+#[tactic(auto, using(crate::proofs::Laws::Words::plain_all))]
 pub fn is_plain(word: &[u8]) -> bool
     ensures { result ≡ is_plain word.now }
 {
-    let mut i = 0;
-    while i < word.len() {
-        if word[i] < 0x21 {
-            return false;
-        }
-        if 0x7E < word[i] {
-            return false;
-        }
-        i += 1;
-    }
-    true
+    word.iter().all(|byte| (0x21..=0x7E).contains(byte))
 }
 
-// Where a word stands among the words of a list, from 0; as many as they are where it is none of them.
-pub fn place_in(list: &[u8], word: &[u8]) -> usize
-    ensures { result ≡ place_in (words list.now) word.now }
+// Where a word stands among the words of a list, from 0.
+pub fn place_in(list: &[u8], word: &[u8]) -> Option<usize>
+    ensures { result ≡ position (λ other. same other word.now) (words list.now) }
 {
-    let mut from = 0;
-    let mut place = 0;
-    while from < list.len() {
-        let end = word_end(list, from);
-        if same(part(list, from, end), word) {
-            return place;
-        }
-        from = end + 1;
-        place += 1;
-    }
-    place
+    words_of(list).position(|other| other == word)
 }

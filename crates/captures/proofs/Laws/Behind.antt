@@ -8,7 +8,7 @@ use Rattle.lines.specs.Line.{lines_of}
 use Rattle.lines.specs.Writing.{Writing, refusing, wanting}
 use Rattle.captures.specs.declared.form.Phase.{Phase}
 use Rattle.captures.specs.declared.form.Phase.TheVariants.{Section}
-use Rattle.captures.specs.declared.scan.Scan.{Scan}
+use Rattle.captures.specs.Falls.{Scan}
 use Rattle.captures.specs.Words.{Word, words, is_empty, same, place_in}
 use Rattle.captures.specs.Form.{asked, code_comes, name_comes, changes_come, is_whole, past, is_stamp, stamp_of, is_change, level_set}
 use Rattle.captures.specs.Definitions.{Head, blank_head, names, placed, named, entering, defined, defined_by, declares, lacks_code}

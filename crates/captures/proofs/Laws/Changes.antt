@@ -10,7 +10,7 @@ use Rattle.captures.specs.declared.form.Phase.{Phase}
 use Rattle.captures.specs.declared.form.Phase.TheVariants.{Section, Scale, ScaleUnit, ScopeKind, ScopeName, VarType, VarSize, VarCode, VarName, Close, Ending, Changes, Dump, Wrong}
 use Rattle.captures.specs.Words.{Word, is_empty, is_plain, same}
 use Rattle.captures.specs.Form.{after, asked, changes_come, changing, is_change, is_stamp, is_whole, level_of, level_set, past, stamp_of}
-use Rattle.captures.specs.declared.scan.Scan.{Scan}
+use Rattle.captures.specs.Falls.{Scan}
 use Rattle.captures.specs.Falls.{Fall, altered, ends_stamp, fall_at, falls, falls_from, moved, scanned, stamped}
 
 -- a byte outside `0` to `z` is no level

@@ -1,11 +1,13 @@
 -- Laws of the walk over a capture: declared codes and changed levels, from what is left.
 -- Assumes nothing.
-use Rattle.std.proofs.Common.{◌≡◌, ℕ, ◌+◌, ◌<◌, ◌≤◌, Bool, true, false, cond, ◌&&◌, ◌||◌, List, [], ◌∷◌, get_or, drop, set, sym, refl, ap, ◌∙◌, add-one, le-ltb, lt-ltb, le-leb}
-use borrow.Author.Tests.{lt-leb}
+use Rattle.std.proofs.Common.{◌≡◌, ℕ, ◌+◌, ◌≤◌, Bool, true, false, cond, Some, None, ◌&&◌, ◌||◌, List, [], ◌∷◌, get_or, drop, set, sym, refl, ap, ◌∙◌, add-one}
+use lib.Seq.{set-get_or}
+use Rattle.std.proofs.lemmas.Option.{cond_some}
+use Rattle.captures.proofs.Laws.Words.{none_said}
 use Rattle.captures.specs.declared.form.Phase.{Phase}
-use Rattle.captures.specs.declared.scan.Scan.{Scan}
+use Rattle.captures.specs.Falls.{Scan}
 use Rattle.captures.specs.Words.{Word, same}
-use Rattle.captures.specs.Form.{asked, code_comes, past, stamp_of, level_set}
+use Rattle.captures.specs.Form.{asked, changes_come, code_comes, is_change, past, stamp_of, stamp_said, level_set}
 use Rattle.captures.specs.Definitions.{declares}
 use Rattle.captures.proofs.Laws.Over.{over, over_asked, over_past}
 use Rattle.captures.specs.Falls.{changed, stamped, altered, in_phase, moved, scanned}
@@ -43,7 +45,7 @@ unfolding declares
 declares_none phase all code left = sym (ap (λ (l : List Word). declares phase l code) left)
 
 -- a line more, of levels that were set up to it
-pub changed_next : (i : ℕ) (codes : List Word) (own code : Word) (level value : ℕ) (test : Bool) (before now : List ℕ)
+changed_next : (i : ℕ) (codes : List Word) (own code : Word) (level value : ℕ) (test : Bool) (before now : List ℕ)
     → now ≡ changed i codes code level before → own ≡ get_or codes i [] → test ≡ same own code → value ≡ cond test level (get_or now i 0)
     → set now i value ≡ changed (i + 1) codes code level before
 unfolding changed
@@ -54,27 +56,38 @@ changed_next i codes own code level value test before now is has by chosen =
     ∙ ap (λ (l : List ℕ). cond (same (get_or codes i []) code) level (get_or l i 0)) is in
     rw (add-one) (ap (λ (l : List ℕ). set l i value) is ∙ ap (set (changed i codes code level before) i) stored)
 
+-- where the line has the code, and where it has not
+pub changed_here : (i : ℕ) (codes : List Word) (own code : Word) (level : ℕ) (before now : List ℕ)
+    → now ≡ changed i codes code level before → own ≡ get_or codes i [] → true ≡ same own code → set now i level ≡ changed (i + 1) codes code level before
+changed_here i codes own code level before now is has by = changed_next i codes own code level level true before now is has by refl
+
+pub changed_not : (i : ℕ) (codes : List Word) (own code : Word) (level : ℕ) (before now : List ℕ)
+    → now ≡ changed i codes code level before → own ≡ get_or codes i [] → false ≡ same own code → now ≡ changed (i + 1) codes code level before
+changed_not i codes own code level before now is has by =
+    let kept : set now i (get_or now i 0) ≡ now = simp set-get_or in
+    sym kept ∙ changed_next i codes own code level (get_or now i 0) false before now is has by refl
+
 -- a stamp, a change and any other word, from the parts that the code reads
 module _ (all codes : List Word) (scan : Scan) (w : Word) (next : Scan) (goes : next ≡ in_phase (past scan.phase w) scan) where
-  pub scan_early : asked scan.phase < 3 → next ≡ scanned all codes scan w
+  pub scan_early : changes_come scan.phase ≡ false → next ≡ scanned all codes scan w
   unfolding scanned
-  scan_early early = goes ∙ simp (lt-leb 3 (asked scan.phase) early)
+  scan_early early = goes ∙ simp early
 
-  pub scan_stamp : 3 ≤ asked scan.phase → stamp_of w ≤ 4294967295 → stamped next (stamp_of w) ≡ scanned all codes scan w
+  pub scan_stamp : (stamp : ℕ) → changes_come scan.phase ≡ true → Some stamp ≡ stamp_said w → stamped next stamp ≡ scanned all codes scan w
   unfolding scanned moved
-  scan_stamp late fits = ap (λ (s : Scan). stamped s (stamp_of w)) goes ∙ simp (le-leb 3 (asked scan.phase) late, le-leb (stamp_of w) 4294967295 fits)
+  scan_stamp stamp late said =
+      let is = cond_some _ _ _ (sym said) in
+      ap (stamped next) (sym is.1) ∙ ap (λ (s : Scan). stamped s (stamp_of w)) goes ∙ simp (late, is.0)
 
-  pub scan_change : 3 ≤ asked scan.phase → 4294967295 < stamp_of w → level_set w < 3
+  pub scan_change : changes_come scan.phase ≡ true → None ≡ stamp_said w → is_change w ≡ true
       → altered all codes next (drop 1 w) (level_set w) ≡ scanned all codes scan w
   unfolding scanned moved
   scan_change late none is =
-      ap (λ (s : Scan). altered all codes s (drop 1 w) (level_set w)) goes
-      ∙ simp (le-leb 3 (asked scan.phase) late, lt-leb (stamp_of w) 4294967295 none, lt-ltb (level_set w) 3 is)
+      ap (λ (s : Scan). altered all codes s (drop 1 w) (level_set w)) goes ∙ simp (late, none_said _ _ none, is)
 
-  pub scan_rest : 3 ≤ asked scan.phase → 4294967295 < stamp_of w → 3 ≤ level_set w → next ≡ scanned all codes scan w
+  pub scan_rest : changes_come scan.phase ≡ true → None ≡ stamp_said w → is_change w ≡ false → next ≡ scanned all codes scan w
   unfolding scanned moved
-  scan_rest late none other =
-      goes ∙ simp (le-leb 3 (asked scan.phase) late, lt-leb (stamp_of w) 4294967295 none, le-ltb (level_set w) 3 other)
+  scan_rest late none other = goes ∙ simp (late, none_said _ _ none, other)
 
 pub or_none : (a : Bool) → a ≡ a || false
 or_none true = refl

@@ -1,25 +1,26 @@
 -- Laws of the whole: what the tally of a capture's falls says of its session's text, and what each answer leaves.
 -- Assumes nothing.
-use Rattle.std.proofs.Common.{◌≡◌, ℕ, ◌+◌, ◌<◌, ◌≤◌, Bool, true, false, cond, not, ◌&&◌, ◌||◌, ltb, ◌⊎◌, List, [], ◌∷◌, ◌++◌, length, sym, refl, ap, ◌∙◌, inl, inr, ⊎_elim, arith, length-append, ltb-false, le-ltb, lt-ltb}
+use Rattle.std.proofs.Common.{◌≡◌, ℕ, ◌+◌, ◌<◌, ◌≤◌, Bool, true, false, cond, not, ◌&&◌, ◌||◌, ltb, Result, Ok, Err, ◌⊎◌, List, [], ◌∷◌, ◌++◌, length, sym, refl, ap, ◌∙◌, inl, inr, ⊎_elim, arith, length-append, ltb-false, le-ltb, lt-ltb}
 use lib.Seq.{sets, length-sets}
 use Rattle.controller.specs.declared.answers.Answer.{Answer}
-use Rattle.controller.specs.declared.answers.Answer.TheVariants.{Done, OutputShort}
+use Rattle.controller.specs.declared.answers.Answer.TheVariants.{OutputShort}
 use Rattle.controller.specs.Answers.{number_of, is_done}
-use Rattle.lines.specs.declared.writer.Written.{Written}
 use Rattle.lines.specs.Line.{line, lines_of}
 use Rattle.lines.specs.Text.{Put, put, putting}
-use Rattle.lines.specs.Writing.{Writes, wanting, refusing, writing, written_of, onto}
+use Rattle.lines.specs.Writing.{Writes, Writing, answer_in, wanting, refusing, writing, written_of, onto}
+use Rattle.lines.proofs.Laws.Told.{answer_told}
 use Rattle.lines.proofs.Laws.Buffer.{sets_append, sets_onto, put_whole}
-use Rattle.captures.specs.declared.definitions.Head as places
-use Rattle.captures.specs.declared.falls.Tally.{Tally}
-use Rattle.captures.specs.declared.scan.Scan.{Scan}
+use Rattle.captures.specs.declared.definitions.Head.{Head as KeptHead}
+use Rattle.captures.specs.Walk.{Tally}
+use Rattle.captures.specs.Falls.{Scan}
 use Rattle.captures.specs.Words.{Word, words}
 use Rattle.captures.specs.Form.{is_whole}
 use Rattle.captures.specs.Definitions.{lacks_code}
 use Rattle.captures.specs.Falls.{Fall, blank_scan, scanned_by, falls_from}
 use Rattle.captures.specs.Import.{kind_of, byte_of, wait_from, sent_from, sent_by, unknown_at, unknown_in, head_of, scan_of, falls_of, in_subset, is_missing, session_text, judged, judgement_of, importing}
+use Rattle.lines.proofs.Laws.Digits.{either}
 use Rattle.captures.proofs.Laws.Falls.{or_none}
-use Rattle.captures.specs.Walk.{line_at, longer, counted, Told, told, telling_one, telling, no_tally, spans_of, HeadRead, Walked}
+use Rattle.captures.specs.Walk.{line_at, longer, counted, Told, told, telling_one, telling, no_tally, codes_in, verdict_of, HeadRead, Walked}
 
 or_assoc : (a b c : Bool) → (a || b) || c ≡ a || (b || c)
 or_assoc true b c = refl
@@ -91,11 +92,11 @@ put_all t (f ∷ fs) fits small =
     ∙ sets_append t.out t.tally.length own rest
 
 -- from here on: a capture, its definitions as they were read, and what the first walk saw and counted
-module _ (capture : List ℕ) (head : places.Head) (defs : HeadRead capture head) where
-  codes_are : spans_of capture head.codes ≡ (head_of capture).codes
+module _ (capture : List ℕ) (head : KeptHead) (defs : HeadRead capture head) where
+  codes_are : codes_in head.codes ≡ (head_of capture).codes
   codes_are = defs.codes
 
-  module _ (out after : List ℕ) (scan : Scan) (tally : Tally) (walked : Walked capture (spans_of capture head.codes) out scan tally after) where
+  module _ (out after : List ℕ) (scan : Scan) (tally : Tally) (walked : Walked capture (codes_in head.codes) out scan tally after) where
     pub scan_is : scan ≡ scan_of capture
     scan_is = walked.seen ∙ ap (λ (cs : List Word). scanned_by (words capture) cs blank_scan (words capture)) codes_are
 
@@ -128,43 +129,57 @@ module _ (capture : List ℕ) (head : places.Head) (defs : HeadRead capture head
         ∙ ap (sets out 0) whole
         ∙ sets_onto (lines_of (sent_by (falls_of capture))) out fits
 
-  pub missing_is : (missing : Bool) → missing ≡ lacks_code 11 (spans_of capture head.codes) → missing ≡ is_missing capture
+  pub missing_is : (missing : Bool) → missing ≡ lacks_code 11 (codes_in head.codes) → missing ≡ is_missing capture
   unfolding is_missing
   missing_is missing is = is ∙ ap (lacks_code 11) codes_are
 
 -- what is judged, from all that was read
-pub judged_is : (capture : List ℕ) (head : places.Head) → HeadRead capture head → (out after : List ℕ) (scan : Scan) (tally : Tally)
-    → Walked capture (spans_of capture head.codes) out scan tally after → (inside missing : Bool) (answer : Answer)
-    → inside ≡ is_whole scan.phase && (not head.twice && not scan.strange) → missing ≡ lacks_code 11 (spans_of capture head.codes)
+pub judged_is : (capture : List ℕ) (head : KeptHead) → HeadRead capture head → (out after : List ℕ) (scan : Scan) (tally : Tally)
+    → Walked capture (codes_in head.codes) out scan tally after → (inside missing : Bool) (answer : Answer)
+    → inside ≡ is_whole scan.phase && (not head.twice && not scan.strange) → missing ≡ lacks_code 11 (codes_in head.codes)
     → answer ≡ judged inside missing tally.unknown → answer ≡ judgement_of capture
 judged_is capture head defs out after scan tally walked inside missing answer i m a =
     a ∙ ap (λ (b : Bool). judged b missing tally.unknown) (inside_is capture head defs out after scan tally walked inside i)
     ∙ ap (λ (b : Bool). judged (in_subset capture) b tally.unknown) (missing_is capture head defs missing m)
     ∙ ap (judged (in_subset capture) (is_missing capture)) (unknown_is capture head defs out after scan tally walked)
 
-module _ (capture out : List ℕ) (returned : Written) (answer : Answer) (is : answer ≡ judgement_of capture) where
-  pub refused : is_done answer ≡ false → returned ≡ written_of (refusing answer) → Writes (importing capture out) out returned out
+-- what is told of the judgement
+pub verdict_done : {told : Unit} (answer : Answer) → Ok told ≡ verdict_of answer → is_done answer ≡ true
+verdict_done answer is =
+    either (is_done answer) (λ done. done) (λ not_done. let told = simp not_done at is in let no : ◌≡◌ {A = ℕ} 0 1 = cc in absurd (omega arith))
+
+pub verdict_refused : {refusal : Answer} (answer : Answer) → Err refusal ≡ verdict_of answer → (is_done answer ≡ false) × (refusal ≡ answer)
+verdict_refused answer is =
+    either (is_done answer) (λ done. let told = simp done at is in let no : ◌≡◌ {A = ℕ} 0 1 = cc in absurd (omega arith))
+    (λ not_done. let told = simp not_done at is in (not_done, cc))
+
+-- a writing is met by what it tells and by the buffer
+pub met : (w : Writing) (before after : List ℕ) (returned : Result ℕ Answer) → returned ≡ written_of w → after ≡ onto w.text before
+    → Writes w before returned after
+met w before after returned told buffer =
+    record { told = told; number = ap number_of (ap answer_in told ∙ answer_told w); buffer = buffer }
+
+module _ (capture out : List ℕ) (answer : Answer) (is : answer ≡ judgement_of capture) where
+  pub refused : is_done answer ≡ false → Writes (importing capture out) out (Err answer) out
   unfolding importing
-  refused not_done gives =
+  refused not_done =
       let test : is_done (judgement_of capture) ≡ false = sym (ap is_done is) ∙ not_done in
       let comes : importing capture out ≡ refusing answer =
       ap (λ (b : Bool). cond b (wanting (length (session_text capture)) (session_text capture) out) (refusing (judgement_of capture))) test
       ∙ ap refusing (sym is) in
-      rw comes (record { told = gives; number = ap (λ (w : Written). number_of w.answer) gives; buffer = refl })
+      rw comes (met (refusing answer) out out (Err answer) (simp not_done) refl)
 
-  pub too_short_lem : is_done answer ≡ true → length out < length (session_text capture) → returned ≡ written_of (refusing OutputShort)
-      → Writes (importing capture out) out returned out
+  pub too_short_lem : is_done answer ≡ true → length out < length (session_text capture) → Writes (importing capture out) out (Err OutputShort) out
   unfolding importing wanting
-  too_short_lem done short gives =
+  too_short_lem done short =
       let test : is_done (judgement_of capture) ≡ true = sym (ap is_done is) ∙ done in
       let comes : importing capture out ≡ refusing OutputShort = simp (test, lt-ltb (length out) (length (session_text capture)) short) in
-      rw comes (record { told = gives; number = ap (λ (w : Written). number_of w.answer) gives; buffer = refl })
+      rw comes (met (refusing OutputShort) out out (Err OutputShort) refl refl)
 
-  pub imported : (after : List ℕ) → is_done answer ≡ true → length (session_text capture) ≤ length out
-      → returned ≡ record { answer = Done; length = length (session_text capture) } → after ≡ onto (session_text capture) out
-      → Writes (importing capture out) out returned after
+  pub imported : (size : ℕ) (after : List ℕ) → is_done answer ≡ true → length (session_text capture) ≤ length out
+      → size ≡ length (session_text capture) → after ≡ onto (session_text capture) out → Writes (importing capture out) out (Ok size) after
   unfolding importing wanting
-  imported after done fits gives wrote =
+  imported size after done fits same wrote =
       let test : is_done (judgement_of capture) ≡ true = sym (ap is_done is) ∙ done in
       let comes : importing capture out ≡ writing (session_text capture) = simp (test, le-ltb (length out) (length (session_text capture)) fits) in
-      rw comes (record { told = gives; number = ap (λ (w : Written). number_of w.answer) gives; buffer = wrote })
+      rw comes (met (writing (session_text capture)) out after (Ok size) (ap Ok same) wrote)

@@ -6,7 +6,7 @@ use lib.Dec.{eqb-suc-zero}
 use Rattle.controller.specs.declared.sent.Sent.{Sent}
 use Rattle.lines.specs.Digits.{newline, between, digit, decimal}
 use Rattle.captures.specs.declared.form.Phase.TheVariants.{Section, Changes}
-use Rattle.captures.specs.declared.scan.Scan.{Scan}
+use Rattle.captures.specs.Falls.{Scan}
 use Rattle.captures.specs.Words.{Word, words, is_plain, same}
 use Rattle.captures.specs.Form.{stamp_limit, stamp_of, level_of, level_set, changing, after, past}
 use Rattle.captures.specs.Definitions.{declares}

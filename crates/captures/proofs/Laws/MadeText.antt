@@ -7,7 +7,7 @@ use Rattle.lines.specs.Digits.{newline, between, digit, decimal}
 use Rattle.lines.proofs.Laws.Digits.{either, decimal_small, decimal_split, decimal_some}
 use Rattle.captures.specs.Words.{Word, is_blank, joined, words, is_plain}
 use Rattle.captures.specs.Form.{stamp_limit, with_digit, number_of, stamp_of}
-use Rattle.captures.proofs.Laws.Form.{stamp_number}
+use Rattle.captures.proofs.Laws.Form.{stamp_digits}
 
 -- a plain byte is no blank: blanks are below 21h
 plain_byte : (byte : ℕ) → between 0x21 0x7E byte ≡ true → is_blank byte ≡ false
@@ -92,6 +92,6 @@ number_by_lem (suc k) n more enough below =
 pub stamp_decimal : (n : ℕ) → n ≤ stamp_limit → stamp_of (code "#" ∷ decimal n) ≡ n
 unfolding number_of
 stamp_decimal n below =
-    stamp_number (code "#" ∷ decimal n) (omega (arith, decimal_some n)) refl
+    stamp_digits (decimal n) (omega (arith, decimal_some n))
     ∙ ap (number_of 0) (sym (append-nil (decimal n)))
     ∙ number_by_lem (suc n) n [] (omega arith) below

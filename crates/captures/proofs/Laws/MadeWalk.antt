@@ -1,6 +1,6 @@
 -- Laws of the walk that makes a capture: a pulse put piece by piece, one line more, and what the whole comes to.
 -- Assumes nothing.
-use Rattle.std.proofs.Common.{◌≡◌, ℕ, ◌+◌, ◌-◌, ◌%◌, ◌<◌, ◌≤◌, Bool, true, false, ltb, List, [], ◌∷◌, ◌++◌, length, take, drop, replicate, sym, refl, ap, ◌∙◌, inl, inr, ⊎_elim, arith, length-append, drop_of_length-le, drop-drop, ltb-false, le-ltb, lt-ltb}
+use Rattle.std.proofs.Common.{◌≡◌, ℕ, ◌+◌, ◌%◌, ◌<◌, ◌≤◌, Bool, true, false, ltb, Result, Ok, Err, List, [], ◌∷◌, ◌++◌, length, take, drop, replicate, sym, refl, ap, ◌∙◌, inl, inr, ⊎_elim, arith, length-append, ltb-false, le-ltb, lt-ltb}
 use Prim.Native.Char.{code}
 use lib.Seq.{sets, length-sets}
 use Rattle.controller.specs.declared.answers.Answer.{Answer}
@@ -9,18 +9,21 @@ use Rattle.controller.specs.declared.sent.Sent.{Sent}
 use Rattle.controller.specs.Answers.{is_done}
 use Rattle.lines.specs.declared.reader.Line.{Line}
 use Rattle.lines.specs.Digits.{newline, digit, decimal}
-use Rattle.lines.specs.Reading.{line_of}
-use Rattle.lines.specs.Session.{Session, ended_by, following, sent_of, session_of}
+use Rattle.lines.specs.Reading.{line_of, told_of}
+use Rattle.lines.specs.Session.{Session, following, session_of}
 use Rattle.lines.specs.Text.{Put, put, putting}
-use Rattle.lines.specs.Writing.{Writes, onto, refusing, wanting, writing, written_of}
+use Rattle.lines.specs.Writing.{Writes, onto, refusing, wanting, writing}
+use mathlib.Core.Bool.{true≢false}
 use Rattle.lines.proofs.Laws.Buffer.{sets_append, sets_next, sets_onto, put_next, put_whole, first_written}
 use Rattle.lines.proofs.Laws.Digits.{decimal_length}
-use Rattle.lines.proofs.Laws.Session.{line_at, more_text, done_at, session_none, session_more, session_bad}
+use Rattle.lines.proofs.Laws.Session.{line_long, session_none, session_more, session_bad}
+use Rattle.lines.proofs.Laws.Told.{told_fault, told_line}
+use Rattle.lines.specs.declared.reader.BadLine.{BadLine}
 use Rattle.captures.specs.Made.{made_header, made_stamp, made_change, made_lines, made_pulse, made_pulses}
 use Rattle.captures.specs.Made.{capture_of, capture_text, capturing}
 use Rattle.captures.specs.MadeWalk.{pulse_size, Making, making, adding, adding_pulses, begun, Captured}
 use Rattle.captures.specs.Walk.{longer}
-use Rattle.captures.proofs.Laws.Import.{Measured}
+use Rattle.captures.proofs.Laws.Import.{Measured, met}
 
 -- a change, byte by byte
 pub change_put : (p : Put) {q r s : Put} (value code : ℕ) {bit : ℕ} → bit ≡ digit (value % 2) → q ≡ putting p (bit ∷ [])
@@ -117,73 +120,68 @@ adding_wraps m a b (t ∷ later) same =
     ap (λ (l : List ℕ). adding_pulses (adding m l) (a + t.wait) later) (pulse_wraps (a + t.wait) (b + t.wait) t next)
     ∙ adding_wraps (adding m (made_pulse (b + t.wait) t)) (a + t.wait) (b + t.wait) later next
 
--- what is left of a session's text at a place comes to the whole, which ends so and is made so
-pub record Left (session : List ℕ) (whole : Making) (from stamp : ℕ) (m : Making) : Type 0 where
-  pub ends : (session_of (drop from session)).end ≡ (session_of session).end
-  pub made : adding_pulses m stamp (session_of (drop from session)).sent ≡ whole
+-- what is left of a session's text comes to the whole, which ends so and is made so
+pub record Left (session : List ℕ) (whole : Making) (rest : List ℕ) (stamp : ℕ) (m : Making) : Type 0 where
+  pub ends : (session_of rest).end ≡ (session_of session).end
+  pub made : adding_pulses m stamp (session_of rest).sent ≡ whole
 
 -- at the end of the text
-pub text_over : {session : List ℕ} {whole : Making} {from stamp : ℕ} {m : Making} → Left session whole from stamp m
-    → length session ≤ from → (Done ≡ (session_of session).end) × (m ≡ whole)
+pub text_over : {session : List ℕ} {whole : Making} {rest : List ℕ} {stamp : ℕ} {m : Making} → Left session whole rest stamp m
+    → length rest ≡ 0 → ((session_of session).end ≡ Done) × (m ≡ whole)
 unfolding adding_pulses
-text_over {session} {stamp = stamp} {m = m} left over =
-    let none = ap session_of (drop_of_length-le session over) ∙ session_none in (
-      sym (ap (λ (s : Session). s.end) none) ∙ left.ends,
-      sym (ap (λ (s : Session). adding_pulses m stamp s.sent) none) ∙ left.made,
-    )
+text_over {rest = []} {stamp = stamp} {m = m} left over =
+    (sym left.ends ∙ ap (λ (s : Session). s.end) session_none, sym (ap (λ (s : Session). adding_pulses m stamp s.sent) session_none) ∙ left.made)
+text_over {rest = byte ∷ rest} left over = absurd (omega arith)
 
-module _ (session : List ℕ) (whole : Making) (from stamp : ℕ) (m : Making) (left : Left session whole from stamp m)
-    (some : from < length session) {line : Line} (read : line ≡ line_of (take (length session - from) (drop from session))) where
+module _ (session : List ℕ) (whole : Making) (rest : List ℕ) (stamp : ℕ) (m : Making) (left : Left session whole rest stamp m) (some : 0 < length rest) where
   -- a bad line ends the session
-  pub line_stops : is_done line.answer ≡ false → (line.answer ≡ (session_of session).end) × (m ≡ whole)
-  unfolding adding_pulses
-  line_stops bad =
-      let ended = session_bad (drop from session) (more_text session from some read) (done_at session from some read bad)
-      ∙ ap (λ (l : Line). ended_by l.answer) (sym (line_at session from some read)) in (
-        sym (ap (λ (s : Session). s.end) ended) ∙ left.ends,
-        sym (ap (λ (s : Session). adding_pulses m stamp s.sent) ended) ∙ left.made,
-      )
+  pub line_stops : {bad : BadLine} → Err bad ≡ told_of (line_of rest) → ((session_of session).end ≡ bad.answer) × (is_done bad.answer ≡ false)
+  line_stops read =
+      let told = told_fault (line_of rest) read in
+      (sym left.ends ∙ ap (λ (s : Session). s.end) (session_bad rest some told.0) ∙ told.1, ap is_done (sym told.1) ∙ told.0)
 
   -- one that stands adds its pulse
-  pub line_goes : {next size more : ℕ} {after : List ℕ} → is_done line.answer ≡ true → next ≡ (stamp + line.wait) % 4294967296
-      → more ≡ length (made_pulse next (sent_of line))
-      → after ≡ (putting (put m.size m.out) (made_pulse next (sent_of line))).out
-      → size ≡ longer m.size more → Left session whole (from + line.length) next (making size after)
+  pub line_goes : {line : Line} → Ok line ≡ told_of (line_of rest) → {next size more : ℕ} {after : List ℕ} → next ≡ (stamp + line.sent.wait) % 4294967296
+      → more ≡ length (made_pulse next line.sent) → after ≡ (putting (put m.size m.out) (made_pulse next line.sent)).out
+      → size ≡ longer m.size more → Left session whole (drop line.length rest) next (making size after)
   unfolding adding adding_pulses
-  line_goes {next} {size} {more} {after} good stamps long puts counts =
-      let t = sent_of line in
-      let rest = session_of (drop (from + line.length) session) in
-      let goes : session_of (drop from session) ≡ following t rest =
-      session_more (drop from session) (more_text session from some read) (done_at session from some read good)
-      ∙ ap (λ (l : Line). following (sent_of l) (session_of (drop l.length (drop from session))))
-      (sym (line_at session from some read))
-      ∙ ap (λ (l : List ℕ). following t (session_of l)) (drop-drop line.length from session) in
-      let same : next % 4294967296 ≡ (stamp + line.wait) % 4294967296 = omega (arith, stamps) in
-      let one : making size after ≡ adding m (made_pulse (stamp + line.wait) t) =
+  line_goes {line} read {next} {size} {more} {after} stamps long puts counts =
+      let t = line.sent in
+      let later = session_of (drop line.length rest) in
+      let told = told_line (line_of rest) read in
+      let goes : session_of rest ≡ following t later =
+      session_more rest some told.0 ∙ ap (λ (s : Sent). following s (session_of (drop (line_of rest).length rest))) told.1
+      ∙ ap (λ (n : ℕ). following t (session_of (drop n rest))) told.2 in
+      let same : next % 4294967296 ≡ (stamp + t.wait) % 4294967296 = omega (arith, stamps) in
+      let one : making size after ≡ adding m (made_pulse (stamp + t.wait) t) =
       ap (λ (n : ℕ). making n after) (counts ∙ ap (longer m.size) long)
       ∙ ap (making (longer m.size (length (made_pulse next t)))) puts
-      ∙ ap (adding m) (pulse_wraps next (stamp + line.wait) t same) in
+      ∙ ap (adding m) (pulse_wraps next (stamp + t.wait) t same) in
       record {
         ends = sym (ap (λ (s : Session). s.end) goes) ∙ left.ends;
         made =
-            ap (λ (x : Making). adding_pulses x next rest.sent) one
-            ∙ adding_wraps (adding m (made_pulse (stamp + line.wait) t)) next (stamp + line.wait) rest.sent same
+            ap (λ (x : Making). adding_pulses x next later.sent) one
+            ∙ adding_wraps (adding m (made_pulse (stamp + t.wait) t)) next (stamp + t.wait) later.sent same
             ∙ sym (ap (λ (s : Session). adding_pulses m stamp s.sent) goes)
             ∙ left.made;
       }
 
+  -- and lies in the text
+  pub line_within : {line : Line} → Ok line ≡ told_of (line_of rest) → (0 < line.length) × (line.length ≤ length rest)
+  line_within read =
+      let told = told_line (line_of rest) read in
+      let long = line_long rest told.0 in
+      (omega (arith, long.0, told.2), omega (arith, long.1, told.2))
+
 -- a walk that began behind the definitions, and ended
-pub captured : {session out : List ℕ} {answer : Answer} {size₀ size : ℕ} {out₀ after : List ℕ} → size₀ ≡ length made_header
-    → out₀ ≡ (putting (put 0 out) made_header).out → answer ≡ (session_of session).end
-    → making size after ≡ adding_pulses (making size₀ out₀) 1 (session_of session).sent → Captured session out answer size after
-captured {session} {out} {size₀ = size₀} long head ends made =
-    record {
-      ends = ends;
-      made =
-          made
-          ∙ ap (λ (l : List ℕ). adding_pulses (making size₀ l) 1 (session_of session).sent) head
-          ∙ ap (λ (n : ℕ). adding_pulses (making n (putting (put 0 out) made_header).out) 1 (session_of session).sent) long;
-    }
+pub captured : (session out : List ℕ) {size₀ size : ℕ} {out₀ after : List ℕ} → size₀ ≡ length made_header
+    → out₀ ≡ (putting (put 0 out) made_header).out
+    → making size after ≡ adding_pulses (making size₀ out₀) 1 (session_of session).sent
+    → making size after ≡ adding_pulses (begun out) 1 (session_of session).sent
+captured session out {size₀ = size₀} long head made =
+    made
+    ∙ ap (λ (l : List ℕ). adding_pulses (making size₀ l) 1 (session_of session).sent) head
+    ∙ ap (λ (n : ℕ). adding_pulses (making n (putting (put 0 out) made_header).out) 1 (session_of session).sent) long
 
 -- a length counted on by a text: the true one, or both past what any buffer has
 measured_by : (at more rest n : ℕ) (small : Bool) → ltb at 9223372036854775808 ≡ small → Measured n (longer at more + rest)
@@ -230,14 +228,14 @@ pulses_put m before (t ∷ later) fits small =
     ∙ sets_append m.out m.size pulse rest
 
 -- from here on: a session's text, and what a walk over it came to
-module _ (session out : List ℕ) {answer : Answer} {size : ℕ} {after : List ℕ}
-    (made : Captured session out answer size after) where
+module _ (session out : List ℕ) {size : ℕ} {after : List ℕ}
+    (made : making size after ≡ adding_pulses (begun out) 1 (session_of session).sent) where
   pub size_is : Measured size (length (capture_text session))
   unfolding capture_text capture_of
   size_is =
       let pulses = made_pulses 1 (session_of session).sent in
       let counted : size ≡ (adding_pulses (begun out) 1 (session_of session).sent).size =
-      ap (λ (m : Making). m.size) made.made in
+      ap (λ (m : Making). m.size) made in
       let long : length (made_header ++ pulses) ≡ length made_header + length pulses = length-append made_header pulses in
       ⊎_elim (λ same. inl (omega (arith, counted, long, same)))
       (λ big. inr (omega (arith, counted, big.0), omega (arith, long, big.1)))
@@ -252,37 +250,42 @@ module _ (session out : List ℕ) {answer : Answer} {size : ℕ} {after : List �
       let head : (putting (put 0 out) made_header).out ≡ sets out 0 made_header =
       ap (λ (p : Put). p.out) (put_whole 0 out made_header (omega (arith, long))) in
       let same_size : length (putting (put 0 out) made_header).out ≡ length out = ap length head ∙ length-sets out 0 made_header in
-      ap (λ (m : Making). m.out) made.made
+      ap (λ (m : Making). m.out) made
       ∙ pulses_put (begun out) 1 (session_of session).sent (omega (arith, long, same_size)) (omega (arith, same_size))
       ∙ sets_next out 0 made_header pulses head (omega arith)
       ∙ sets_onto (made_header ++ pulses) out fits
 
-module _ (session out : List ℕ) {answer : Answer} (is : answer ≡ (session_of session).end) where
+module _ (session out : List ℕ) where
   -- a bad line
-  pub refused : is_done answer ≡ false → Writes (capturing session out) out (written_of (refusing answer)) out
+  pub refused : {answer : Answer} → (session_of session).end ≡ answer → is_done answer ≡ false → Writes (capturing session out) out (Err answer) out
   unfolding capturing
-  refused bad =
-      let test : is_done (session_of session).end ≡ false = sym (ap is_done is) ∙ bad in
-      let comes : capturing session out ≡ refusing answer = simp test (ap refusing (sym is)) in
-      rw comes (record { told = refl; number = refl; buffer = refl })
+  refused {answer} is bad =
+      let test : is_done (session_of session).end ≡ false = ap is_done is ∙ bad in
+      let comes : capturing session out ≡ refusing answer = simp test (ap refusing is) in
+      rw comes (met (refusing answer) out out (Err answer) (simp bad) refl)
 
   -- a buffer too short
-  pub too_short_lem : is_done answer ≡ true → length out < length (capture_text session)
-      → Writes (capturing session out) out (written_of (refusing OutputShort)) out
+  pub too_short_lem : (session_of session).end ≡ Done → length out < length (capture_text session) → Writes (capturing session out) out (Err OutputShort) out
   unfolding capturing wanting
   too_short_lem done short =
-      let test : is_done (session_of session).end ≡ true = sym (ap is_done is) ∙ done in
       let comes : capturing session out ≡ refusing OutputShort =
-      simp (test, lt-ltb (length out) (length (capture_text session)) short) in
-      rw comes (record { told = refl; number = refl; buffer = refl })
+      simp (done, lt-ltb (length out) (length (capture_text session)) short) in
+      rw comes (met (refusing OutputShort) out out (Err OutputShort) refl refl)
 
   -- the capture, written
-  pub written : {size : ℕ} {after : List ℕ} → is_done answer ≡ true → length (capture_text session) ≤ length out
-      → size ≡ length (capture_text session) → after ≡ onto (capture_text session) out
-      → Writes (capturing session out) out (record { answer = Done; length = size }) after
+  written_whole : {size : ℕ} {after : List ℕ} → (session_of session).end ≡ Done → length (capture_text session) ≤ length out
+      → size ≡ length (capture_text session) → after ≡ onto (capture_text session) out → Writes (capturing session out) out (Ok size) after
   unfolding capturing wanting
-  written done fits long wrote =
-      let test : is_done (session_of session).end ≡ true = sym (ap is_done is) ∙ done in
+  written_whole {size} {after} done fits long wrote =
       let comes : capturing session out ≡ writing (capture_text session) =
-      simp (test, le-ltb (length out) (length (capture_text session)) fits) in
-      rw comes (record { told = ap (λ (n : ℕ). record { answer = Done; length = n }) long; number = refl; buffer = wrote })
+      simp (done, le-ltb (length out) (length (capture_text session)) fits) in
+      rw comes (met (writing (capture_text session)) out after (Ok size) (ap Ok long) wrote)
+
+  -- where it fits, the second walk writes it, since the first one came to the end
+  pub written : {result : Result ℕ Answer} {after : List ℕ} → Captured session out result after → (session_of session).end ≡ Done
+      → length (capture_text session) ≤ length out → length out < 9223372036854775808 → Writes (capturing session out) out result after
+  written {result = Ok size} {after = after} made done fits small =
+      written_whole done fits
+      (⊎_elim (λ same. same) (λ big. absurd (omega (arith, big.1, small, fits))) (size_is session out {size = size} {after = after} made.1))
+      (out_is session out {size = size} {after = after} made.1 fits small)
+  written {result = Err answer} made done fits small = absurd (true≢false (ap is_done (sym done ∙ made.0) ∙ made.1))

@@ -1,15 +1,21 @@
 -- Laws of the walk over a whole capture: what is left comes to the same.
 -- Assumes nothing.
-use Rattle.std.proofs.Common.{◌≡◌, ℕ, zero, suc, ◌-◌, ◌<◌, ◌≤◌, Bool, true, false, ◌&&◌, ◌||◌, ltb, List, [], ◌∷◌, ◌++◌, length, get_or, sym, refl, ap, ◌∙◌, arith, eq-eqb, ne_eqb}
+use Rattle.std.proofs.Common.{◌≡◌, ℕ, zero, suc, ◌≤◌, Bool, true, false, cond, Some, None, ◌&&◌, ◌||◌, leb, ltb, List, [], ◌∷◌, ◌++◌, length, get_or, take, sym, refl, ap, ◌∙◌, arith, add-one, take_all}
+use denote.Ref.{Bor}
+use Rattle.std.specs.List.{list_any}
+use Rattle.std.proofs.lemmas.List.{take_more}
+use Rattle.std.proofs.lemmas.List.Folds.{list_any-append}
 use Rattle.controller.proofs.Laws.Choice.{cond-elim}
 use Rattle.captures.specs.declared.form.Phase.{Phase}
-use Rattle.captures.specs.declared.scan.Scan.{Scan}
+use Rattle.captures.specs.Falls.{Scan}
 use Rattle.captures.specs.Words.{Word, is_empty, place_in}
-use Rattle.captures.specs.Form.{code_comes, name_comes, past}
+use Rattle.captures.specs.Form.{changes_come, code_comes, name_comes, past, stamp_limit, stamp_of, stamp_said}
 use Rattle.captures.proofs.Laws.Over.{over, over_past}
 use Rattle.captures.specs.Definitions.{Head, names, placed, named, defined, defined_by, lacks_code}
-use Rattle.captures.specs.Falls.{Fall, ends, falls, fall_at, falls_from, scanned, scanned_by}
-use Rattle.captures.specs.Walk.{Told, telling_one, telling}
+use Rattle.captures.specs.Falls.{Fall, ends, ends_stamp, falls, fall_at, falls_from, scanned, scanned_by}
+use Rattle.captures.proofs.Laws.Definitions.{code_at}
+use Rattle.captures.specs.Walk.{Lent, Told, codes_in, ends_at, telling_one, telling}
+use Rattle.captures.proofs.Laws.Tally.{and_second}
 
 -- a word more of the definitions
 pub defined_step : (h next : Head) (left : List Word) (w : Word) (ws : List Word) → left ≡ w ∷ ws → next ≡ defined h w → defined_by next ws ≡ defined_by h left
@@ -88,22 +94,38 @@ module _ (all codes : List Word) where
   unfolding falls_from
   told_end scan t after left is tells = tells ∙ sym (ap (λ (l : List Word). telling t (falls_from all codes scan l)) is)
 
--- a line fewer
-pub lacks_step : (line : ℕ) (codes : List Word) → 0 < line → lacks_code line codes ≡ is_empty (get_or codes (line - 1) []) || lacks_code (line - 1) codes
+-- whether a word ends a stamp, by the stamp that it says
+pub ends_said : (scan : Scan) (w : Word) → ends_at scan (stamp_said w) ≡ ends scan w
+ends_said scan w = go (leb (stamp_of w) stamp_limit)
+  where
+    go : (b : Bool) → ends_at scan (cond b (Some (stamp_of w)) None) ≡ changes_come scan.phase && (b && ends_stamp scan (stamp_of w))
+    go true = refl
+    go false = sym (and_second (changes_come scan.phase) false refl)
+
+-- a needed signal has no code, by the codes as they stand in the text
+or_both : (a b : Bool) → a || b ≡ b || a
+or_both true true = refl
+or_both true false = refl
+or_both false true = refl
+or_both false false = refl
+
+pub lacks_take : (test : Bor (List ℕ) → Bool) → ((code : Bor (List ℕ)) → test code ≡ is_empty code.now) → (n : ℕ) (codes : Lent) → n ≤ length codes
+    → list_any test (take n codes) ≡ lacks_code n (codes_in codes)
 unfolding lacks_code
-lacks_step zero codes some = absurd (omega arith)
-lacks_step (suc line) codes some = let less : suc line - 1 ≡ line = omega arith in rw less refl
+lacks_take test is zero codes less = refl
+lacks_take test is (suc n) codes less =
+    let last = get_or codes n (record { ref_ptr = (0, 0); now = [] }) in
+    let more : take (suc n) codes ≡ take n codes ++ last ∷ [] = rw (sym (add-one n)) (take_more codes n (record { ref_ptr = (0, 0); now = [] }) (omega arith)) in
+    ap (list_any test) more ∙ list_any-append test (take n codes) (last ∷ [])
+    ∙ or_both (list_any test (take n codes)) (test last || false)
+    ∙ ap (λ (b : Bool). b || list_any test (take n codes)) (or_end (test last) ∙ is last ∙ ap is_empty (sym (code_at codes n)))
+    ∙ ap (λ (b : Bool). is_empty (get_or (codes_in codes) n []) || b) (lacks_take test is n codes (omega arith))
+  where
+    or_end : (b : Bool) → b || false ≡ b
+    or_end true = refl
+    or_end false = refl
 
-pub lacks_here : (line : ℕ) (codes : List Word) (code : Word) → 0 < line → code ≡ get_or codes (line - 1) [] → length code ≡ 0 → true ≡ lacks_code line codes
-lacks_here line codes code some is none =
-    sym (lacks_step line codes some ∙ ap (λ (b : Bool). b || lacks_code (line - 1) codes) (eq-eqb _ _ (sym (ap length is) ∙ none)))
-
-pub lacks_next : (line : ℕ) (codes : List Word) (code : Word) → 0 < line → code ≡ get_or codes (line - 1) [] → (length code ≡ 0 → ⊥)
-    → lacks_code (line - 1) codes ≡ lacks_code line codes
-lacks_next line codes code some is has =
-    sym (lacks_step line codes some ∙ ap (λ (b : Bool). b || lacks_code (line - 1) codes) (ne_eqb _ _ (λ none. has (ap length is ∙ none))))
-
-pub lacks_none : (line : ℕ) (codes : List Word) → line ≤ 0 → false ≡ lacks_code line codes
-unfolding lacks_code
-lacks_none zero codes none = refl
-lacks_none (suc line) codes none = absurd (omega arith)
+pub lacks_tested : {test : Bor (List ℕ) → Bool} {r : Bool} (codes : Lent) → r ≡ list_any test codes
+    → ((code : Bor (List ℕ)) → test code ≡ is_empty code.now) → length codes ≡ 11 → r ≡ lacks_code 11 (codes_in codes)
+lacks_tested {test} codes tested is long =
+    tested ∙ sym (ap (list_any test) (take_all 11 codes (omega (arith, long)))) ∙ lacks_take test is 11 codes (omega (arith, long))

@@ -3,7 +3,7 @@
 use Rattle.std.proofs.Common.{◌≡◌, ℕ, zero, suc, Bool, false, cond, not, ◌&&◌, eqb, List, [], ◌∷◌, ◌++◌, get_or, set, refl, ap, ◌∙◌, eq-eqb}
 use lib.Seq.{set-get_or}
 use Rattle.controller.proofs.Laws.Choice.{cond-elim}
-use Rattle.captures.specs.declared.scan.Scan.{Scan}
+use Rattle.captures.specs.Falls.{Scan}
 use Rattle.captures.specs.Words.{Word, same}
 use Rattle.captures.specs.Form.{changes_come, stamp_of, level_set, past}
 use Rattle.captures.specs.Definitions.{Head, defined, defined_by}

@@ -1,22 +1,19 @@
 -- Laws of the changes that the table tells: they set one line or none, and end no stamp.
 -- Assumes nothing.
-use Rattle.std.proofs.Common.{◌≡◌, ℕ, suc, ◌<◌, ◌≤◌, Bool, true, false, cond, not, ◌&&◌, ◌||◌, eqb, ltb, List, [], ◌∷◌, length, get_or, drop, set, sym, refl, ap, ◌∙◌, arith, ltb-false, ltb-true, lt-ltb, ne_eqb, eqb-true, le-leb, leb-true}
+use Rattle.std.proofs.Common.{◌≡◌, ℕ, suc, ◌<◌, ◌≤◌, Bool, true, false, cond, not, ◌||◌, eqb, ltb, List, [], ◌∷◌, length, get_or, drop, set, sym, refl, ap, ◌∙◌, arith, ltb-false, ltb-true, lt-ltb, ne_eqb, eqb-true, le-leb, leb-true}
 use Prim.Native.Char.{code}
 use lib.ListN.{get_or-eq_default}
 use Rattle.captures.specs.declared.form.Phase.{Phase}
 use Rattle.captures.specs.declared.form.Phase.TheVariants.{Section}
-use Rattle.captures.specs.declared.scan.Scan.{Scan}
+use Rattle.captures.specs.Falls.{Scan}
 use Rattle.captures.specs.Words.{Word, is_empty, is_plain, same, is}
 use Rattle.captures.specs.Form.{asked, changes_come, is_change, after, changing, past, stamp_of, no_stamp, level_of, level_set}
 use Rattle.captures.specs.Definitions.{declares}
-use Rattle.captures.specs.Falls.{ends, falls_from, altered, in_phase, scanned, scanned_by}
-use Rattle.captures.specs.Walk.{with_levels, Told, telling}
-use Rattle.captures.specs.Table.{short_codes, place_of, entry_of, line_set, Tabled}
+use Rattle.captures.specs.Falls.{ends, altered, in_phase, scanned}
+use Rattle.captures.specs.Walk.{with_levels}
+use Rattle.captures.specs.Table.{short_codes, place_of, entry_of, Tabled}
 use Rattle.captures.proofs.Laws.Over.{late_phase}
-use Rattle.captures.proofs.Laws.Form.{level_short, level_long, stamp_other}
 use Rattle.captures.proofs.Laws.Falls.{or_none, scan_change}
-use Rattle.captures.proofs.Laws.Tally.{end_none}
-use Rattle.captures.proofs.Laws.Session.{scanned_step, told_step}
 use Rattle.captures.proofs.Laws.Table.{place_plain, changed_before, changed_one}
 
 -- a byte that says a level is plain, and neither `#` nor `$`
@@ -70,13 +67,10 @@ past_change phase w late sets plain =
 
 -- a change is no stamp
 no_stamp_lem : (w : Word) → level_set w < 3 → stamp_of w ≡ no_stamp
-no_stamp_lem w sets = go (ltb (length w) 2) refl
-  where
-    go : (b : Bool) → ltb (length w) 2 ≡ b → stamp_of w ≡ no_stamp
-    go true is = absurd (let none = level_short w (ltb-true (length w) 2 is) in omega arith)
-    go false is =
-        let long = ltb-false (length w) 2 is in
-        stamp_other w long (λ one. let at = level_plain (get_or w 0 0) (rw (level_long w long) at sets) in omega arith)
+unfolding stamp_of level_set
+no_stamp_lem [] sets = refl
+no_stamp_lem (a ∷ []) sets = refl
+no_stamp_lem (a ∷ b ∷ w) sets = simp (ne_eqb a (code "#") (λ one. let at = level_plain a sets in omega arith))
 
 -- what the table tells of a word, from its parts
 record Known (table : List ℕ) (phase : Phase) (w : Word) (line : ℕ) : Type 0 where
@@ -84,26 +78,10 @@ record Known (table : List ℕ) (phase : Phase) (w : Word) (line : ℕ) : Type 0
   sets : level_set w < 3
   entry : line ≡ entry_of table (drop 1 w)
 
-knows : (table : List ℕ) (phase : Phase) (w : Word) (line : ℕ) → line ≡ line_set table phase w → line < 12 → Known table phase w line
-unfolding line_set
-knows table phase w line by known = go (changes_come phase) (is_change w) refl refl by
-  where
-    go : (a b : Bool) → changes_come phase ≡ a → is_change w ≡ b → line ≡ cond (changes_come phase && is_change w) (entry_of table (drop 1 w)) 12
-        → Known table phase w line
-    go true true late sets at =
-        record { late = leb-true 3 (asked phase) late; sets = ltb-true (level_set w) 3 sets; entry = simp (late, sets) at at }
-    go true false late sets at = absurd (let none = simp (late, sets) at at in omega (arith, none))
-    go false b late sets at = absurd (let none = simp late at at in omega (arith, none))
-
--- and back
-pub line_told_lem : (table : List ℕ) (phase : Phase) (w : Word) → 3 ≤ asked phase → level_set w < 3 → entry_of table (drop 1 w) ≡ line_set table phase w
-unfolding line_set
-line_told_lem table phase w late sets = simp (le-leb 3 (asked phase) late, lt-ltb (level_set w) 3 sets)
-
 module _ (table : List ℕ) (all codes : List Word) (t : Tabled table all codes 11) (scan : Scan) (w : Word) (line : ℕ)
-    (by : line ≡ line_set table scan.phase w) (known : line < 12) where
+    (comes : changes_come scan.phase ≡ true) (change : is_change w ≡ true) (entry : line ≡ entry_of table (drop 1 w)) (known : line < 12) where
   known_as : Known table scan.phase w line
-  known_as = knows table scan.phase w line by known
+  known_as = record { late = leb-true 3 (asked scan.phase) comes; sets = ltb-true (level_set w) 3 change; entry = entry }
 
   -- the code is a short one, and plain
   plain : is_plain (drop 1 w) ≡ true
@@ -119,8 +97,8 @@ module _ (table : List ℕ) (all codes : List Word) (t : Tabled table all codes 
 
   alters : altered all codes scan (drop 1 w) (level_set w) ≡ scanned all codes scan w
   alters =
-      scan_change all codes scan w scan (ap (λ (p : Phase). in_phase p scan) (sym (past_change scan.phase w known_as.late known_as.sets plain))) known_as.late
-      (let none = no_stamp_lem w known_as.sets in omega arith) known_as.sets
+      scan_change all codes scan w scan (ap (λ (p : Phase). in_phase p scan) (sym (past_change scan.phase w known_as.late known_as.sets plain))) comes
+      (simp (no_stamp_lem w known_as.sets)) change
 
   declared : declares (Section false) all (drop 1 w) ≡ true
   declared = t.declared (drop 1 w) (λ un. let entry = known_as.entry in omega arith)
@@ -144,13 +122,5 @@ module _ (table : List ℕ) (all codes : List Word) (t : Tabled table all codes 
       let same : with_levels scan scan.levels ≡ altered all codes scan (drop 1 w) (level_set w) = cc in
       same ∙ alters
 
-  ends_none : false ≡ ends scan w
-  ends_none = sym (simp (le-leb 3 (asked scan.phase) known_as.late, no_stamp_lem w known_as.sets))
-
-  -- so a walk over it tells nothing
-  pub set_step : (next : Scan) (t : Told) (left : List Word) (u : Word) (ws : List Word) → left ≡ u ∷ ws → w ≡ u → next ≡ scanned all codes scan w
-      → (scanned_by all codes next ws ≡ scanned_by all codes scan left) × (telling t (falls_from all codes next ws) ≡ telling t (falls_from all codes scan left))
-  set_step next t left u ws stands is goes = (
-    scanned_step all codes scan next left w u ws stands is goes,
-    told_step all codes scan next t t false left w u ws stands is goes ends_none (end_none t scan false refl),
-  )
+  pub ends_none : ends scan w ≡ false
+  ends_none = simp (le-leb 3 (asked scan.phase) known_as.late, no_stamp_lem w known_as.sets)

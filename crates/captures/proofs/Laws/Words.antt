@@ -1,12 +1,16 @@
 -- Laws of words: the first word of a text and the words behind it, and when two words are the same.
 -- Assumes nothing.
-use Rattle.std.proofs.Common.{◌≡◌, ℕ, zero, suc, ◌+◌, ◌-◌, ◌<◌, ◌≤◌, Bool, true, false, ◌&&◌, eqb, ◌⊎◌, List, [], ◌∷◌, length, get_or, take, drop, sym, refl, ap, ◌∙◌, subst, inl, inr, add-one, arith, length-drop, drop_of_length-le, get_or-drop, take_all, drop-cons, drop-drop, eq-eqb, eqb-true}
-use lib.Seq.{take-nil}
+use Rattle.std.proofs.Common.{◌≡◌, ℕ, zero, suc, ◌+◌, ◌<◌, ◌≤◌, Bool, true, false, ◌&&◌, cond, Some, None, eqb, ltb, List, [], ◌∷◌, length, get_or, take, drop, sym, refl, ap, ◌∙◌, subst, add-one, arith, drop_of_length-le, eq-eqb, eqb-true}
+use Rattle.std.specs.List.{position, position_or_len}
+use Rattle.std.specs.Option.{is_some}
+use Rattle.std.proofs.lemmas.List.Sums.{fails_before_first, passes_at_first, prefix_len-le-length}
+use Rattle.std.specs.List.{list_all}
+use Rattle.std.specs.Cmp.Lexicographic.{pointwise}
+use Rattle.std.proofs.lemmas.List.Recursion.{is_position_or_len}
 use borrow.Author.Tests.{eqb-false}
 use Rattle.lines.specs.Digits.{between}
 use Rattle.controller.proofs.Laws.Choice.{and_left, and_right}
 use Rattle.captures.specs.Words.{Word, is_blank, joined, words, is_plain, same, place_in}
-use Rattle.captures.specs.Walk.{WordEnd, span}
 
 -- the first word, where its bytes are no blanks and what is behind it is a blank or the end
 pub words_at : (n : ℕ) (text : List ℕ) → n ≤ length text → 0 < length text → ((k : ℕ) → k < n → is_blank (get_or text k 0) ≡ false)
@@ -18,6 +22,15 @@ words_at (suc n) (b ∷ []) inside some none stop =
     let is : n ≡ 0 = omega arith in rw is (simp (none 0 (omega arith)))
 words_at (suc n) (b ∷ c ∷ rest) inside some none stop =
     simp (none 0 (omega arith), words_at n (c ∷ rest) (omega arith) (omega arith) (λ k less. none (suc k) (omega arith)) (λ less. stop (omega arith)))
+
+-- the first word of a text that is not empty, and the words behind it
+pub first_word : (text : List ℕ) → 0 < length text
+    → words text ≡ take (position_or_len is_blank text) text ∷ words (drop (position_or_len is_blank text + 1) text)
+first_word text some =
+    words_at (position_or_len is_blank text) text (prefix_len-le-length _ text) some
+    (λ k less. fails_before_first is_blank text k 0 less)
+    (λ less. passes_at_first is_blank text 0 less)
+    ∙ ap (λ (n : ℕ). take (position_or_len is_blank text) text ∷ words (drop n text)) (sym (add-one _))
 
 pub same_refl : (w : Word) → same w w ≡ true
 unfolding same
@@ -49,55 +62,6 @@ below_next P n below at k less = go (eqb k n) refl
     go true is = subst P (sym (eqb-true k n is)) at
     go false is = below k (let other = eqb-false k n is in omega (arith, other))
 
--- a word that ends where no byte of it is a blank, and what is behind it is one or the end
-pub word_ends : (text : List ℕ) (from end : ℕ) → from < length text → from ≤ end → end ≤ length text
-    → ((k : ℕ) → k < end - from → is_blank (get_or text (from + k) 0) ≡ false) → (end < length text → is_blank (get_or text end 0) ≡ true)
-    → WordEnd text from end
-word_ends text from end start further inside none stop =
-    let long = length-drop from text in
-    let there : from + (end - from) ≡ end = omega arith in
-    let behind : from + suc (end - from) ≡ end + 1 = omega arith in
-    record {
-      further = further;
-      inside = inside;
-      stands =
-          words_at (end - from) (drop from text) (omega arith) (omega arith)
-          (λ k less. ap is_blank (get_or-drop from text k 0) ∙ none k less)
-          (λ less. ap is_blank (get_or-drop from text (end - from) 0 ∙ ap (λ (n : ℕ). get_or text n 0) there) ∙ stop (omega arith))
-          ∙ ap (λ (l : List ℕ). span from end text ∷ words l)
-          (drop-drop (suc (end - from)) from text ∙ ap (λ (n : ℕ). drop n text) behind);
-    }
-
--- a byte more of a word
-pub plain_step : (i : ℕ) (w : Word) → i < length w → is_plain (drop i w) ≡ between 0x21 0x7E (get_or w i 0) && is_plain (drop (i + 1) w)
-unfolding is_plain
-plain_step i w less = rw (add-one, drop-cons w i 0)
-
-pub plain_end : (i : ℕ) (w : Word) → length w ≤ i → is_plain (drop i w) ≡ true
-unfolding is_plain
-plain_end i w past = rw (drop_of_length-le w past)
-
--- the bytes up to a place past the text's end are those up to its end
-pub span_all : (from end : ℕ) (text : List ℕ) → length text ≤ end → span from (length text) text ≡ span from end text
-span_all from end text past =
-    let long = length-drop from text in
-    take_all (length text - from) (drop from text) (omega arith) ∙ sym (take_all (end - from) (drop from text) (omega arith))
-
--- a part that ends before it begins, or begins past the text's end, is empty
-pub span_none : (from end : ℕ) (text : List ℕ) → end ≤ from ⊎ length text ≤ from → take 0 text ≡ span from end text
-span_none from end text (inl before) = let none : end - from ≡ 0 = omega arith in rw none refl
-span_none from end text (inr past) = rw (drop_of_length-le text past) (sym (take-nil (end - from)))
-
--- a word's place among those that are left, where the first of them is it
-pub place_here : (w : Word) (x : Word) (xs : List Word) (all : List Word) → all ≡ x ∷ xs → same x w ≡ true → place_in all w ≡ 0
-unfolding place_in
-place_here w x xs all is here = ap (λ (l : List Word). place_in l w) is ∙ simp here
-
--- and where it is not
-pub place_next : (w : Word) (x : Word) (xs : List Word) (all : List Word) → all ≡ x ∷ xs → same x w ≡ false → place_in all w ≡ place_in xs w + 1
-unfolding place_in
-place_next w x xs all is here = ap (λ (l : List Word). place_in l w) is ∙ simp here (sym (add-one (place_in xs w)))
-
 -- no words are left past the text's end
 pub words_over : (from : ℕ) (text : List ℕ) → length text ≤ from → words (drop from text) ≡ []
 unfolding words
@@ -107,6 +71,70 @@ pub place_none : (w : Word) (all : List Word) → all ≡ [] → place_in all w 
 unfolding place_in
 place_none w all is = ap (λ (l : List Word). place_in l w) is
 
--- all but the first byte
-pub span_tail : (w : Word) → span 1 (length w) w ≡ drop 1 w
-span_tail w = take_all (length w - 1) (drop 1 w) (let long = length-drop 1 w in omega arith)
+-- each byte of a plain word is one of 21h to 7Eh
+pub plain_all : (w : Word) → is_plain w ≡ list_all (between 0x21 0x7E) w
+unfolding is_plain
+plain_all [] = refl
+plain_all (b ∷ w) = ap (λ (t : Bool). between 0x21 0x7E b && t) (plain_all w)
+
+-- two words are the same where they are byte for byte
+pub same_pointwise : (v w : Word) → pointwise eqb v w ≡ same v w
+unfolding same
+same_pointwise [] [] = refl
+same_pointwise [] (b ∷ w) = refl
+same_pointwise (a ∷ v) [] = refl
+same_pointwise (a ∷ v) (b ∷ w) = ap (λ (t : Bool). eqb a b && t) (same_pointwise v w)
+
+-- a byte more makes one word more at most
+length_joined : (blank : Bool) (byte : ℕ) (ws : List Word) → length (joined blank byte ws) ≤ length ws + 1
+unfolding joined
+length_joined true byte ws = omega arith
+length_joined false byte [] = omega arith
+length_joined false byte (w ∷ ws) = omega arith
+
+-- a text has no more words than bytes
+pub few_words : (text : List ℕ) → length (words text) ≤ length text
+unfolding words
+few_words [] = omega arith
+few_words (byte ∷ rest) = omega (arith, length_joined (is_blank byte) byte (words rest), few_words rest)
+
+-- where a word stands among others is the first place at which it is the same
+pub place_position : (ws : List Word) (w : Word) → place_in ws w ≡ position_or_len (λ (x : Word). same x w) ws
+unfolding place_in
+place_position ws w = is_position_or_len (λ (l : List Word). place_in l w) (λ (x : Word). same x w) refl (λ x xs. ap (cond (same x w) 0) (omega arith)) ws
+
+-- a word is one of others where it stands at some place among them
+pub is_some_position : (ws : List Word) (w : Word) → is_some (position (λ (x : Word). same x w) ws) ≡ ltb (place_in ws w) (length ws)
+is_some_position ws w =
+    is_some_cond (ltb (position_or_len (λ (x : Word). same x w) ws) (length ws)) _ ∙ ap (λ (n : ℕ). ltb n (length ws)) (sym (place_position ws w))
+  where
+    is_some_cond : (b : Bool) (n : ℕ) → is_some (cond b (Some n) None) ≡ b
+    is_some_cond true n = refl
+    is_some_cond false n = refl
+
+-- what is not there does not pass
+pub none_said : {A : Type 0} (b : Bool) (x : A) → None ≡ cond b (Some x) None → b ≡ false
+none_said true x is = let no : ◌≡◌ {A = ℕ} 0 1 = cc in absurd (omega arith)
+none_said false x is = refl
+
+-- the bytes of words, and of a blank behind each: one more than the text has, at most
+unfoldable pub total : List Word → ℕ
+total [] = 0
+total (w ∷ ws) = length w + 1 + total ws
+
+total_joined : (blank : Bool) (byte : ℕ) (ws : List Word) (most : ℕ) → total ws ≤ most → 1 ≤ most → total (joined blank byte ws) ≤ most + 1
+unfolding total joined
+total_joined true byte ws most less some = omega (arith, less)
+total_joined false byte [] most less some = omega (arith, less)
+total_joined false byte (w ∷ ws) most less some = omega (arith, less)
+
+pub total_words : (text : List ℕ) → total (words text) ≤ length text + 1
+unfolding total words
+total_words [] = omega arith
+total_words (byte ∷ rest) =
+    let more = total_joined (is_blank byte) byte (words rest) (length rest + 1) (total_words rest) (omega arith) in omega (arith, more)
+
+-- a word more
+pub total_step : (left : List Word) (w : Word) (ws : List Word) → left ≡ w ∷ ws → total left ≡ length w + 1 + total ws
+unfolding total
+total_step left w ws is = ap total is

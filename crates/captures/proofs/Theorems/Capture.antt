@@ -7,8 +7,8 @@ use Rattle.controller.proofs.Laws.Answers.{done_is, none_applies, row_applies, t
 use Rattle.controller.proofs.Laws.Choice.{cond-elim}
 use Rattle.controller.proofs.Laws.Tests.{tests_lt}
 use Rattle.lines.specs.Line.{lines_of}
-use Rattle.lines.specs.Reading.{line_of}
-use Rattle.lines.specs.Session.{sent_of, session_of}
+use Rattle.lines.specs.Reading.{line_of, sent_of}
+use Rattle.lines.specs.Session.{session_of}
 use Rattle.lines.specs.Theorems.{AllSayable}
 use Rattle.lines.specs.Writing.{Writing, wanting, writing}
 use Rattle.lines.proofs.Laws.Digits.{either}

@@ -4,14 +4,13 @@ use Rattle.std.proofs.Common.{◌≡◌, ℕ, ◌+◌, Bool, true, false, cond, 
 use mathlib.Core.Bool.{false≢true}
 use Rattle.controller.proofs.Laws.Choice.{cond-elim}
 use Rattle.lines.proofs.Laws.Digits.{either}
-use Rattle.captures.specs.declared.faults.Unknown.{Unknown}
 use Rattle.captures.specs.declared.form.Phase.{Phase}
-use Rattle.captures.specs.declared.scan.Scan.{Scan}
+use Rattle.captures.specs.Falls.{Scan}
 use Rattle.captures.specs.Words.{Word, words, is_empty, place_in}
 use Rattle.captures.specs.Form.{changes_come, code_comes, name_comes, is_change, is_stamp, is_whole, past}
 use Rattle.captures.specs.Definitions.{Head, blank_head, defined, defined_by, declares, entering, named, names, placed}
 use Rattle.captures.specs.Falls.{Fall, blank_scan, ends, fall_at, falls, falls_from, scanned, scanned_by}
-use Rattle.captures.specs.Faults.{fault_of, fault_with, is_undeclared, is_unfinished, is_wrong, unknown_from, unknown_of, wrong_from}
+use Rattle.captures.specs.Faults.{Unknown, fault_of, fault_with, is_undeclared, is_unfinished, is_wrong, unknown_from, unknown_of, wrong_from}
 use Rattle.captures.specs.Unheeded.{reached}
 use Rattle.captures.specs.Import.{head_of, in_subset, scan_of, unknown_at, unknown_in}
 use Rattle.captures.specs.Theorems.{FaultsFound}

@@ -6,7 +6,7 @@ use Rattle.controller.proofs.Laws.Choice.{and_left, and_right}
 use Rattle.lines.specs.Line.{line, lines_of}
 use Rattle.lines.proofs.Laws.Digits.{either}
 use Rattle.lines.proofs.Theorems.Written.{lines_fit}
-use Rattle.captures.specs.declared.scan.Scan.{Scan}
+use Rattle.captures.specs.Falls.{Scan}
 use Rattle.captures.specs.Words.{Word, is_blank, joined, words}
 use Rattle.captures.specs.Form.{changes_come, is_change, is_stamp, level_set, stamp_of}
 use Rattle.captures.specs.Falls.{Fall, blank_scan, changed, ends, ends_stamp, fall_at, falls, falls_from, level_at, moved, scanned, stamped}

@@ -6,7 +6,7 @@ use Rattle.controller.proofs.Laws.Choice.{cond-elim}
 use Rattle.lines.proofs.Laws.Digits.{either}
 use Rattle.captures.specs.declared.form.Phase.{Phase}
 use Rattle.captures.specs.declared.form.Phase.TheVariants.{Section, Scale, ScaleUnit, ScopeKind, ScopeName, VarType, VarSize, VarCode, VarName, Close, Ending, Changes, Dump, Wrong}
-use Rattle.captures.specs.declared.scan.Scan.{Scan}
+use Rattle.captures.specs.Falls.{Scan}
 use Rattle.captures.specs.Words.{Word, is_empty, is_plain}
 use Rattle.captures.specs.Form.{after, changes_come, past}
 use Rattle.captures.specs.Falls.{blank_scan, scanned, scanned_by}

@@ -9,7 +9,7 @@ use Rattle.lines.specs.Theorems.{Sayable, AllSayable}
 use Rattle.lines.specs.Writing.{writing, wanting}
 use Rattle.lines.proofs.Laws.Kinds.{kind_below}
 use Rattle.captures.specs.declared.form.Phase.TheVariants.{Changes}
-use Rattle.captures.specs.declared.scan.Scan.{Scan}
+use Rattle.captures.specs.Falls.{Scan}
 use Rattle.captures.specs.Words.{Word, words}
 use Rattle.captures.specs.Definitions.{lacks_code}
 use Rattle.captures.specs.Falls.{Fall, blank_scan, in_phase, fall_at, scanned_by, falls_from}

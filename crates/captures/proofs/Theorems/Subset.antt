@@ -9,7 +9,7 @@ use Rattle.lines.specs.Text.{bytes_of}
 use Rattle.lines.proofs.Laws.Digits.{either}
 use Rattle.captures.specs.declared.form.Phase.{Phase}
 use Rattle.captures.specs.declared.form.Phase.TheVariants.{Section, ScopeKind, ScopeName, VarType, VarSize, VarCode, VarName, Close, Changes, Dump}
-use Rattle.captures.specs.declared.scan.Scan.{Scan}
+use Rattle.captures.specs.Falls.{Scan}
 use Rattle.captures.specs.Words.{Word, words, is_empty, is_plain, place_in, same}
 use Rattle.captures.specs.Form.{after, asked, is_whole, level_of, level_set, opened, past, stamp_of}
 use Rattle.captures.specs.Definitions.{Head, names, placed, named, defined, defined_by, declares, lacks_code}

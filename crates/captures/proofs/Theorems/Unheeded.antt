@@ -3,7 +3,7 @@
 use Rattle.std.proofs.Common.{◌≡◌, ℕ, Bool, true, false, not, ◌&&◌, ◌||◌, leb, List, [], ◌∷◌, ◌++◌, get_or, drop, sym, refl, ap, ◌∙◌}
 use Rattle.captures.specs.declared.form.Phase.{Phase}
 use Rattle.captures.specs.declared.form.Phase.TheVariants.{Section}
-use Rattle.captures.specs.declared.scan.Scan.{Scan}
+use Rattle.captures.specs.Falls.{Scan}
 use Rattle.captures.specs.Words.{Word, words, same, is_plain}
 use Rattle.captures.specs.Form.{code_comes, is_whole, past, changes_come, is_stamp, stamp_of, stamp_limit, is_change, level_set}
 use Rattle.captures.specs.Definitions.{Head, blank_head, defined, defined_by, declares, lacks_code}

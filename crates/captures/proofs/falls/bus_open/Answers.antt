@@ -1,13 +1,16 @@
--- `captures::falls::bus_open` meets its contract: the lower four lines, then the upper four. Assumes nothing.
-use Rattle.captures.proofs.Laws.Falls.{or_later}
-use Rattle.captures.specs.Import.{bus_open}
-use Rattle.std.proofs.Common.{sym, ◌∙◌}
+-- `captures::falls::bus_open` meets its contract: the eight lines in their order. Assumes nothing.
+use Rattle.std.proofs.Common.{◌≡◌, eqb, refl}
+use Rattle.captures.specs.contracts.form.LevelPartialEq.TheImpl as levels
+use Rattle.captures.specs.declared.form.Level.{Level}
+use Rattle.captures.specs.declared.form.Level.TheVariants.{Low, High, Open}
+use Rattle.captures.specs.Form.{number_of_level}
+use Rattle.captures.proofs.Laws.Levels.{bus_tested}
 use Rattle.captures.proofs.falls.bus_open.Goals as goal
 
-pub returns-then-one_open : goal.returns-then-one_open
-unfolding bus_open
-returns-then-one_open c = simp (sym c.one_open.ensures ∙ c.if-one_open.true)
+is_open : (level : Level) → levels.ghosts.eq level Open ≡ eqb (number_of_level level) 2
+is_open Low = refl
+is_open High = refl
+is_open Open = refl
 
 pub returns : goal.returns
-unfolding bus_open
-returns c = or_later _ _ _ (sym c.one_open.ensures ∙ c.if-one_open.false) c.one_open-2.ensures
+returns c = bus_tested {test = λ level. levels.ghosts.eq level Open} c.args.levels.now c.contains.ensures.value is_open c.told-levels

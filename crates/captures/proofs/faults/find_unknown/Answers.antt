@@ -1,59 +1,67 @@
--- `captures::faults::find_unknown` meets its contract. The invariant: the words that are left, searched from here, come to what
--- the whole text comes to. The measure is what is left of the text.
--- Assumes nothing.
-use Rattle.std.proofs.Common.{ℕ, cond, ◌&&◌, leb, sym, ap, ◌∙◌, arith}
-use Rattle.captures.specs.declared.scan.Scan.{Scan}
+-- `captures::faults::find_unknown` meets its contract: a fall that is unknown, a word that ends none, and no more words. Assumes nothing.
+use Rattle.std.proofs.Common.{◌≡◌, Bool, cond, ◌&&◌, sym, refl, ap, ◌∙◌, rules, arith}
+use Rattle.std.specs.Option.{is_some}
 use Rattle.captures.specs.Words.{words}
-use Rattle.captures.specs.Faults.{unknown_from}
-use Rattle.captures.specs.Form.{stamp_limit, changes_come}
-use Rattle.captures.specs.Walk.{ends_by, spans_of}
-use Rattle.captures.proofs.Laws.Faults.{behind_word, unknown_end, unknown_here, unknown_next}
-use Rattle.captures.proofs.Laws.Words.{words_over}
+use Rattle.captures.specs.Form.{changes_come, is_stamp}
+use Rattle.captures.specs.Faults.{falls_unknown, unknown_of, unknown_told}
+use Rattle.captures.specs.Walk.{codes_in, ends_at, scan_in}
+use Rattle.captures.proofs.Laws.Faults.{said_is_stamp, unknown_end, unknown_here, unknown_next}
+use Rattle.captures.proofs.Laws.Session.{ends_said}
+use Rattle.captures.proofs.Laws.Words.{total_step, total_words}
 use Rattle.captures.proofs.faults.find_unknown.Goals as goal
+use Rattle.captures.proofs.faults.find_unknown.Goals.{then-changes_come+then-is_some, else-changes_come, else-changes_come-via-then-changes_come+else-is_some, else-changes_come-via-else-changes_come}
 
-pub loop-from-init : goal.loop-from-init
-loop-from-init c =
-    let args = c.args in
-    let text = args.text.now in
-    (ap (λ (s : Scan). unknown_from (words text) (spans_of text args.codes) s 0 0 (words text)) c.blank_scan-scan.ensures, omega arith)
+pub loop-word-init : goal.loop-word-init
+loop-word-init c =
+    let text = c.args.capture.now.text.now in
+    let rest : c.into_iter-word-iterator.result.rest.now ≡ text = search rules in
+    (tt, tt, rw (rest, c.new-scan.ensures) refl, rw rest (omega (arith, total_words text)), omega arith)
 
-pub returns-then-both : goal.returns-then-both
-returns-then-both c =
-    let test = c in
-    let word = test in
-    let loop = word.loop-from in
-    let args = word.args in
-    let text = args.text.now in
-    let ended = test.ends.ensures ∙ ap (ends_by loop.scan) test.stamp_of-stamp.ensures in
-    c.fall_at.ensures
-    ∙ unknown_here (words text) (spans_of text args.codes) loop.scan loop.at loop.from _ _ _ _ word.word_end-end.ensures.stands
-    test.part-word.ensures _ _ ended test.falls_unknown.ensures (sym test.both.ensures ∙ c.if-both.true)
-    ∙ loop.invariant.0
+pub returns-in-Some-fall_unknown : goal.returns-in-Some-fall_unknown
+returns-in-Some-fall_unknown c =
+    let all = words c.args.capture.now.text.now in
+    let codes = codes_in c.args.capture.now.codes in
+    let loop = c.loop-word in
+    let scan = scan_in loop.scan in
+    let ended = c.ends_at.ensures ∙ ap (ends_at scan) c.stamp_of-stamp.ensures ∙ ends_said scan c.in-Some.word.now in
+    unknown_here all codes scan loop.at loop.place _ _ _ c.in-Some.ensures.steps _
+    (sym c.in-Some-fall_unknown.is ∙ c.fall_unknown.ensures ∙ ap (λ (b : Bool). unknown_told (unknown_of (b && falls_unknown scan) scan loop.at)) ended)
+    ∙ ap unknown_told loop.invariant.2
 
-pub overflow_add-from : goal.overflow_add-from
-overflow_add-from c = omega (arith, c.word_end-end.ensures.inside, c.loop-from.invariant.1)
+pub overflow_add-place-in-loop-word : goal.overflow_add-place-in-loop-word
+overflow_add-place-in-loop-word c =
+    let loop = c.loop-word in
+    omega (arith, total_step _ _ _ c.in-Some.ensures.steps, loop.invariant.3, loop.invariant.4)
 
-pub loop-from-smaller : goal.loop-from-smaller
-loop-from-smaller c = omega (arith, c.word_end-end.ensures.further, c.loop-from-test.true)
-
-pub loop-from-preserved : goal.loop-from-preserved
-loop-from-preserved c =
-    let test = c in
-    let word = test in
-    let loop = word.loop-from in
-    let args = word.args in
-    let text = args.text.now in
-    let ended = test.ends.ensures ∙ ap (ends_by loop.scan) test.stamp_of-stamp.ensures in (
-      unknown_next (words text) (spans_of text args.codes) loop.scan loop.at loop.from _ _ _ _ word.word_end-end.ensures.stands
-          test.part-word.ensures _ _ ended test.falls_unknown.ensures _ _ _ (sym test.both.ensures ∙ c.if-both.false) c.scan_word-scan.ensures
-          (c.stamp_place-at.ensures ∙ ap (λ (n : ℕ). cond (changes_come loop.scan.phase && leb n stamp_limit) loop.from loop.at) test.stamp_of-stamp.ensures)
-          (behind_word loop.from _ text word.word_end-end.ensures.further word.word_end-end.ensures.inside)
-          ∙ loop.invariant.0,
-      loop.invariant.1,
+pub loop-word-preserved : goal.loop-word-preserved
+loop-word-preserved c =
+    let all = words c.args.capture.now.text.now in
+    let codes = codes_in c.args.capture.now.codes in
+    let loop = c.loop-word in
+    let scan = scan_in loop.scan in
+    let word = c.in-Some.word.now in
+    let ended = c.ends_at.ensures ∙ ap (ends_at scan) c.stamp_of-stamp.ensures ∙ ends_said scan word in
+    let stamp = sym (said_is_stamp word) ∙ ap is_some (sym c.stamp_of-stamp.ensures) in
+    let holds : c.if-changes_come.at ≡ cond (changes_come scan.phase && is_stamp word) loop.place loop.at =
+    elim c.if-changes_come.branch [
+      | then-changes_come+then-is_some w ↦
+          w.at-is ∙ sym (simp (sym c.changes_come.ensures ∙ w.if-changes_come.true, stamp ∙ sym w.is_some.ensures ∙ w.if-is_some.true))
+      | else-changes_come w ↦
+          w.at-is ∙ elim w.else-changes_come.branch [
+            | else-changes_come-via-then-changes_come+else-is_some v ↦
+                sym (simp (sym c.changes_come.ensures ∙ v.if-changes_come.true, stamp ∙ sym v.is_some.ensures ∙ v.if-is_some.false))
+            | else-changes_come-via-else-changes_come v ↦ sym (simp (sym c.changes_come.ensures ∙ v.if-changes_come.false))
+          ]
+    ] in
+    let none = sym c.in_default.is ∙ c.fall_unknown.ensures ∙ ap (λ (b : Bool). unknown_told (unknown_of (b && falls_unknown scan) scan loop.at)) ended in (
+      tt,
+      tt,
+      unknown_next all codes scan loop.at loop.place _ _ _ c.in-Some.ensures.steps _ _ _ none c.scan_word-scan.ensures holds (omega arith) ∙ loop.invariant.2,
+      omega (arith, total_step _ _ _ c.in-Some.ensures.steps, loop.invariant.3),
+      loop.invariant.4,
     )
 
 pub returns : goal.returns
 returns c =
-    let over = c in
-    c.fall_at-2.ensures ∙ unknown_end _ _ _ _ _ _ _ (words_over _ _ over.loop-from-test.false) c.falls_unknown-2.ensures
-    ∙ over.loop-from.invariant.0
+    let scan = scan_in c.loop-word.scan in
+    c.fall_unknown-2.ensures ∙ ap unknown_told (unknown_end _ _ scan _ _ _ c.in-None.ensures.steps.0 ∙ c.loop-word.invariant.2)

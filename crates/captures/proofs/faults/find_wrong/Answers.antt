@@ -1,50 +1,46 @@
--- `captures::faults::find_wrong` meets its contract. The invariant: the words that are left, searched from here, come to what the
--- whole text comes to. The measure is what is left of the text.
--- Assumes nothing.
-use Rattle.std.proofs.Common.{sym, ap, ◌∙◌, arith}
+-- `captures::faults::find_wrong` meets its contract: a word at fault, one that is not, and no more words. Assumes nothing.
+use Rattle.std.proofs.Common.{◌≡◌, sym, refl, ◌∙◌, rules, arith}
 use Rattle.captures.specs.Words.{words}
-use Rattle.captures.specs.Definitions.{Head}
-use Rattle.captures.specs.Faults.{wrong_from}
 use Rattle.captures.specs.Walk.{head_in}
-use Rattle.captures.proofs.Laws.Faults.{behind_word, fault_is, wrong_end, wrong_here, wrong_next}
-use Rattle.captures.proofs.Laws.Words.{words_over}
+use Rattle.captures.proofs.Laws.Faults.{fault_is, fault_none, fault_some, wrong_end, wrong_here, wrong_next}
+use Rattle.captures.proofs.Laws.Words.{total_step, total_words}
 use Rattle.captures.proofs.faults.find_wrong.Goals as goal
 
-pub loop-from-init : goal.loop-from-init
-loop-from-init c =
-    let args = c.args in
-    (ap (λ (h : Head). wrong_from (words args.text.now) h 0 (words args.text.now)) (c.blank_head-head.ensures args.text.now), omega arith)
+pub loop-word-init : goal.loop-word-init
+loop-word-init c =
+    let text = c.args.capture.now.text.now in
+    let rest : c.into_iter-word-iterator.result.rest.now ≡ text = search rules in
+    (tt, tt, rw (rest, c.new-head.ensures) refl, rw rest (omega (arith, total_words text)), omega arith)
 
-pub returns-then-not-is_unfinished : goal.returns-then-not-is_unfinished
-returns-then-not-is_unfinished c =
-    let word = c in
-    let loop = word.loop-from in
-    let text = word.args.text.now in
-    let by = fault_is (words text) (head_in text loop.head) _ _ _ _ _ _ c.define-head.ensures c.part.ensures
-    c.is_wrong.ensures c.is_undeclared-undeclared.ensures c.fault_of-fault.ensures in
-    wrong_here (words text) (head_in text loop.head) _ loop.from _ _ _ word.word_end-end.ensures.stands c.define-head.ensures _ by
-    (sym c.is_unfinished.ensures ∙ c.if-not-is_unfinished.true)
-    ∙ loop.invariant.0
+pub returns-in-Some-fault_of : goal.returns-in-Some-fault_of
+returns-in-Some-fault_of c =
+    let all = words c.args.capture.now.text.now in
+    let loop = c.loop-word in
+    let head = head_in loop.head in
+    let by = fault_is all head _ _ _ _ _ _ c.define.ensures refl c.is_wrong.ensures c.is_undeclared-undeclared.ensures refl in
+    let some = fault_some _ _ (sym c.in-Some-fault_of.is ∙ c.fault_of.ensures) in
+    (λ i. record { fault = some.1 i; place = loop.place })
+    ∙ wrong_here all head _ loop.place _ _ _ c.in-Some.ensures.steps c.define.ensures _ by some.0
+    ∙ loop.invariant.2
 
-pub overflow_add-from : goal.overflow_add-from
-overflow_add-from c = omega (arith, c.word_end-end.ensures.inside, c.loop-from.invariant.1)
+pub overflow_add-place-in-loop-word : goal.overflow_add-place-in-loop-word
+overflow_add-place-in-loop-word c =
+    let loop = c.loop-word in
+    omega (arith, total_step _ _ _ c.in-Some.ensures.steps, loop.invariant.3, loop.invariant.4)
 
-pub loop-from-smaller : goal.loop-from-smaller
-loop-from-smaller c = omega (arith, c.word_end-end.ensures.further, c.loop-from-test.true)
-
-pub loop-from-preserved : goal.loop-from-preserved
-loop-from-preserved c =
-    let word = c in
-    let loop = word.loop-from in
-    let text = word.args.text.now in
-    let by = fault_is (words text) (head_in text loop.head) _ _ _ _ _ _ c.define-head.ensures c.part.ensures
-    c.is_wrong.ensures c.is_undeclared-undeclared.ensures c.fault_of-fault.ensures in (
-      wrong_next (words text) (head_in text loop.head) _ loop.from _ _ _ word.word_end-end.ensures.stands c.define-head.ensures _ by _
-          (sym c.is_unfinished.ensures ∙ c.if-not-is_unfinished.false)
-          (behind_word loop.from _ text word.word_end-end.ensures.further word.word_end-end.ensures.inside)
-          ∙ loop.invariant.0,
-      loop.invariant.1,
+pub loop-word-preserved : goal.loop-word-preserved
+loop-word-preserved c =
+    let all = words c.args.capture.now.text.now in
+    let loop = c.loop-word in
+    let head = head_in loop.head in
+    let by = fault_is all head _ _ _ _ _ _ c.define.ensures refl c.is_wrong.ensures c.is_undeclared-undeclared.ensures refl in
+    let none = fault_none _ (sym c.in_default.is ∙ c.fault_of.ensures) in (
+      tt,
+      tt,
+      wrong_next all head _ loop.place _ _ _ c.in-Some.ensures.steps c.define.ensures _ by _ none (omega arith) ∙ loop.invariant.2,
+      omega (arith, total_step _ _ _ c.in-Some.ensures.steps, loop.invariant.3),
+      loop.invariant.4,
     )
 
 pub returns : goal.returns
-returns c = wrong_end _ _ _ _ (words_over _ _ c.loop-from-test.false) ∙ c.loop-from.invariant.0
+returns c = wrong_end _ _ _ _ c.in-None.ensures.steps.0 ∙ c.loop-word.invariant.2

@@ -1,6 +1,5 @@
--- `captures::faults::wrong_word` meets its contract: what the table has noted is declared. Assumes nothing.
-use Rattle.captures.proofs.Laws.Table.{table_blank}
+-- `captures::faults::wrong_word` meets its contract: nothing is known before the first code. Assumes nothing.
 use Rattle.captures.proofs.faults.wrong_word.Goals as goal
 
 pub read_head-requires : goal.read_head-requires
-read_head-requires c = table_blank _ _
+read_head-requires c = c.blank_table-table.ensures _ _

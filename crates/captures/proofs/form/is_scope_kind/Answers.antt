@@ -1,9 +1,12 @@
--- `captures::form::is_scope_kind` meets its contract: the kinds are five. Assumes nothing.
-use Rattle.std.proofs.Common.{ℕ, ltb, ap}
-use Rattle.captures.specs.Words.{words, joined, is_blank}
+-- `captures::form::is_scope_kind` meets its contract: the word is one of the list. Assumes nothing.
+use Rattle.std.proofs.Common.{ap, ◌∙◌}
+use Rattle.std.specs.Option.{is_some}
+use Rattle.lines.specs.Text.{bytes_of}
 use Rattle.captures.specs.Form.{is_scope_kind}
+use Rattle.captures.specs.Words.{words}
+use Rattle.captures.proofs.Laws.Words.{is_some_position}
 use Rattle.captures.proofs.form.is_scope_kind.Goals as goal
 
 pub returns : goal.returns
-unfolding is_scope_kind words joined is_blank
-returns c = ap (λ (n : ℕ). ltb n 5) c.place_in.ensures
+unfolding is_scope_kind
+returns c = c.is_some.ensures ∙ ap is_some c.place_in.ensures ∙ is_some_position (words (bytes_of "module task function begin fork")) c.args.word.now

@@ -1,37 +1,33 @@
 -- `captures::made::capture` meets its contract: the first walk, into no buffer, says how the session ends and measures its
 -- capture; the second writes it. Assumes nothing.
-use Rattle.std.proofs.Common.{◌≡◌, ◌<◌, ◌≤◌, length, sym, ◌∙◌, ⊎_elim, arith}
-use Rattle.captures.specs.Made.{capture_text}
-use Rattle.captures.proofs.Laws.MadeWalk.{size_is, out_is, refused, too_short_lem, written}
+use Rattle.std.proofs.Common.{◌≡◌, ◌<◌, ◌≤◌, ℕ, Result, Err, [], length, sym, subst, ⊎_elim, rules, arith}
+use Rattle.controller.specs.declared.answers.Answer.{Answer}
+use Rattle.lines.specs.Writing.{Writes}
+use Rattle.captures.specs.Made.{capture_text, capturing}
+use Rattle.captures.specs.MadeWalk.{Captured}
+use Rattle.captures.proofs.Laws.MadeWalk.{size_is, refused, too_short_lem, written}
 use Rattle.captures.proofs.made.capture.Goals as goal
 
-pub returns-then-not-is_done : goal.returns-then-not-is_done
-returns-then-not-is_done c =
-    let walk = c in
-    refused _ _ walk.walk-seen.ensures.ends (sym c.is_done.ensures ∙ c.if-not-is_done.true)
+pub returns-in_err-length : goal.returns-in_err-length
+returns-in_err-length c =
+    let made = subst (λ (r : Result ℕ Answer). Captured c.args.session.now [] r c.walk.new.out) c.in_err-length.was c.walk.ensures in
+    let gone : c.from_residual.result ≡ Err c.in_err-length.field-0.0 = search rules in
+    subst (λ (r : Result ℕ Answer). Writes (capturing c.args.session.now c.args.out.now) c.args.out.now r c.args.out.now) (sym gone)
+    (refused c.args.session.now c.args.out.now made.0 made.1)
 
-pub returns-then-out-seen : goal.returns-then-out-seen
-returns-then-out-seen c =
-    let test = c in
-    let walk = test in
-    let start = walk in
-    let small : length start.args.out.now < 9223372036854775808 = omega (arith, start.well_formed.0, start.well_formed.1.0) in
-    too_short_lem _ _ walk.walk-seen.ensures.ends (sym test.is_done.ensures ∙ test.if-not-is_done.false)
-    (⊎_elim (λ same. omega (arith, same, c.if-out-seen.true)) (λ big. omega (arith, big.1, small))
-    (size_is _ _ walk.walk-seen.ensures))
+pub returns-then-out-length : goal.returns-then-out-length
+returns-then-out-length c =
+    let made = subst (λ (r : Result ℕ Answer). Captured c.args.session.now [] r c.walk.new.out) c.in_ok-length.was c.walk.ensures in
+    let small : length c.args.out.now < 9223372036854775808 = omega arith in
+    too_short_lem c.args.session.now c.args.out.now made.0
+    (⊎_elim (λ same. omega (arith, same, c.if-out-length.true)) (λ big. omega (arith, big.1, small)) (size_is c.args.session.now [] made.1))
 
 pub returns : goal.returns
 returns c =
-    let again = c in
-    let room = again in
-    let test = room in
-    let walk = test in
-    let start = walk in
-    let session = start.args.session.now in
-    let out = start.args.out.now in
-    let small : length out < 9223372036854775808 = omega (arith, start.well_formed.0, start.well_formed.1.0) in
-    let same : walk.walk-seen.result.length ≡ length (capture_text session) =
-    ⊎_elim (λ same. same) (λ big. absurd (omega (arith, big.0, small, room.if-out-seen.false))) (size_is _ _ walk.walk-seen.ensures) in
-    let fits : length (capture_text session) ≤ length out = omega (arith, same, room.if-out-seen.false) in
-    written _ _ walk.walk-seen.ensures.ends (sym test.is_done.ensures ∙ test.if-not-is_done.false) fits same
-    (out_is _ _ again.walk.ensures fits small)
+    let session = c.args.session.now in
+    let made = subst (λ (r : Result ℕ Answer). Captured session [] r c.walk.new.out) c.in_ok-length.was c.walk.ensures in
+    let small : length c.args.out.now < 9223372036854775808 = omega arith in
+    let fits : length (capture_text session) ≤ length c.args.out.now =
+    ⊎_elim (λ same. omega (arith, same, c.if-out-length.false)) (λ big. absurd (omega (arith, big.0, small, c.if-out-length.false)))
+    (size_is session [] made.1) in
+    written session c.args.out.now c.walk-2.ensures made.0 fits small

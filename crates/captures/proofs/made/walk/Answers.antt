@@ -1,84 +1,42 @@
--- `captures::made::walk` meets its contract. The invariant: the buffer keeps its length, and the lines that are left, captured
--- from here, come to what the whole session comes to. The measure is what is left of the text. Assumes nothing.
-use Rattle.std.proofs.Common.{ℕ, List, length, sym, refl, ap, ◌∙◌, arith}
-use Rattle.lines.specs.Text.{put, putting}
-use Rattle.lines.proofs.Laws.Session.{line_inside}
-use Rattle.captures.specs.Made.{made_pulse}
-use Rattle.captures.proofs.Laws.MadeWalk.{captured, line_stops, line_goes, text_over}
+-- `captures::made::walk` meets its contract: a bad line, one that stands, and the end of the text. Assumes nothing.
+use Rattle.std.proofs.Common.{◌≡◌, ◌<◌, ℕ, Result, Ok, Err, length, length-drop, sym, refl, ap, ◌∙◌, subst, rules, arith, eqb-true}
+use Rattle.controller.specs.declared.answers.Answer.{Answer}
+use Rattle.lines.specs.declared.reader.BadLine.{BadLine}
+use Rattle.captures.specs.MadeWalk.{Captured}
+use Rattle.captures.proofs.Laws.MadeWalk.{captured, line_goes, line_stops, line_within, text_over}
 use Rattle.captures.proofs.made.walk.Goals as goal
 
-pub loop-from-init : goal.loop-from-init
-loop-from-init c = (refl, omega arith, record { ends = refl; made = refl })
+pub returns-in_err-line : goal.returns-in_err-line
+returns-in_err-line c =
+    let loop = c.loop-rest in
+    let some : 0 < length loop.rest.now = search rules in
+    let bad : (b : BadLine) × (c.read_line.result ≡ Err b) × (c.in_err-line.field-0.0 ≡ b.answer) = search rules in
+    let stops = line_stops _ _ _ _ _ loop.invariant.1 some (sym bad.1 ∙ c.read_line.ensures) in
+    let gone : c.from_residual.result ≡ Err c.in_err-line.field-0.0 = search rules in
+    subst (λ (r : Result ℕ Answer). Captured c.args.session.now c.args.out.now r loop.out) (sym (gone ∙ ap Err bad.2)) stops
 
-pub shape_of-out-then-not-is_done : goal.shape_of-out-then-not-is_done
-shape_of-out-then-not-is_done c =
-    let loop = c in
-    loop.loop-from.invariant.0 ∙ loop.put_header-length.auto.out
+pub loop-rest-smaller : goal.loop-rest-smaller
+loop-rest-smaller c =
+    let loop = c.loop-rest in
+    let some : 0 < length loop.rest.now = search rules in
+    let good : c.read_line.result ≡ Ok c.in_ok-line.line = search rules in
+    let within = line_within _ _ _ _ _ loop.invariant.1 some (sym good ∙ c.read_line.ensures) in
+    rw c.behind-rest.ensures (omega (arith, length-drop c.in_ok-line.line.length loop.rest.now, within.0, within.1))
 
-pub returns-then-not-is_done : goal.returns-then-not-is_done
-returns-then-not-is_done c =
-    let read = c in
-    let turn = read in
-    let loop = turn in
-    let stops = line_stops _ _ _ _ _ loop.loop-from.invariant.2 turn.loop-from-test.true read.read_line-line.ensures
-    (sym c.is_done.ensures ∙ c.if-not-is_done.true) in
-    let head = loop.put_header-length.ensures in
-    captured head.0 head.1 stops.0 stops.1
-
-pub overflow_add-from : goal.overflow_add-from
-overflow_add-from c =
-    let pulse = c in
-    let wraps = pulse in
-    let test = wraps in
-    let read = test in
-    let turn = read in
-    let loop = turn in
-    let good = sym test.is_done.ensures ∙ test.if-not-is_done.false in
-    let session = loop.args.session.now in
-    let inside = line_inside session loop.loop-from.from turn.loop-from-test.true read.read_line-line.ensures good in
-    omega (arith, inside.1, loop.loop-from.invariant.1)
-
-pub loop-from-smaller : goal.loop-from-smaller
-loop-from-smaller c =
-    let pulse = c in
-    let wraps = pulse in
-    let test = wraps in
-    let read = test in
-    let turn = read in
-    let loop = turn in
-    let good = sym test.is_done.ensures ∙ test.if-not-is_done.false in
-    let session = loop.args.session.now in
-    let inside = line_inside session loop.loop-from.from turn.loop-from-test.true read.read_line-line.ensures good in
-    omega (arith, inside.0, turn.loop-from-test.true)
-
-pub loop-from-preserved : goal.loop-from-preserved
-loop-from-preserved c =
-    let pulse = c in
-    let wraps = pulse in
-    let test = wraps in
-    let read = test in
-    let turn = read in
-    let loop = turn in
-    let good = sym test.is_done.ensures ∙ test.if-not-is_done.false in
-    let session = loop.args.session.now in
-    let inside = line_inside session loop.loop-from.from turn.loop-from-test.true read.read_line-line.ensures good in
-    let sent = ap (made_pulse wraps.wrapping_add_u32-stamp.result) pulse.sent_of-sent.ensures in (
-      pulse.put_pulse.auto.out ∙ loop.loop-from.invariant.0,
-      loop.loop-from.invariant.1,
-      line_goes _ _ _ _ _ loop.loop-from.invariant.2 turn.loop-from-test.true read.read_line-line.ensures good
-          wraps.wrapping_add_u32-stamp.ensures.value (pulse.put_pulse.ensures.0 ∙ ap length sent)
-          (pulse.put_pulse.ensures.2 ∙ ap (λ (l : List ℕ). (putting (put loop.loop-from.length loop.loop-from.out) l).out) sent)
-          c.add_up-length.ensures,
+pub loop-rest-preserved : goal.loop-rest-preserved
+loop-rest-preserved c =
+    let loop = c.loop-rest in
+    let some : 0 < length loop.rest.now = search rules in
+    let good : c.read_line.result ≡ Ok c.in_ok-line.line = search rules in
+    let pulse = c.put_pulse.ensures in (
+      c.put_pulse.auto.out ∙ loop.invariant.0,
+      rw c.behind-rest.ensures
+          (line_goes _ _ _ _ _ loop.invariant.1 some (sym good ∙ c.read_line.ensures) refl pulse.0 pulse.2 c.add_up-length.ensures),
     )
-
-pub shape_of-out : goal.shape_of-out
-shape_of-out c =
-    let loop = c in
-    loop.loop-from.invariant.0 ∙ loop.put_header-length.auto.out
 
 pub returns : goal.returns
 returns c =
-    let loop = c in
-    let over = text_over loop.loop-from.invariant.2 c.loop-from-test.false in
-    let head = loop.put_header-length.ensures in
-    captured head.0 head.1 over.0 over.1
+    let loop = c.loop-rest in
+    let head = c.put_header-length.ensures in
+    let over = text_over loop.invariant.1 (eqb-true _ _ (sym c.is_empty.ensures ∙ c.loop-rest-test.false)) in
+    (over.0, captured c.args.session.now c.args.out.now head.0 head.1 over.1)

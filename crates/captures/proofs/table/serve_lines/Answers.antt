@@ -1,38 +1,25 @@
--- `captures::table::serve_lines` meets its contract. The invariant: the table is right for every line before this one. The measure is the
--- lines that are left. Assumes nothing.
-use Rattle.std.proofs.Common.{◌≡◌, sym, ◌∙◌, arith}
-use Rattle.captures.specs.Walk.{spans_of}
-use Rattle.captures.specs.Words.{words}
+-- `captures::table::serve_lines` meets its contract: a line more. Assumes nothing.
+use Rattle.std.proofs.Common.{◌≡◌, ℕ, ◌+◌, List, set, sym, ap, ◌∙◌, subst, arith}
+use Rattle.captures.specs.Words.{Word, words}
+use Rattle.captures.specs.Table.{Tabled, entry_of, place_of, with_line}
+use Rattle.captures.specs.Walk.{codes_in}
+use Rattle.captures.proofs.Laws.Definitions.{code_at}
 use Rattle.captures.proofs.Laws.Table.{table_codes, table_line}
 use Rattle.captures.proofs.table.serve_lines.Goals as goal
 
 pub loop-line-init : goal.loop-line-init
-loop-line-init c = (omega arith, table_codes _ _ _ _ c.requires)
-
-pub overflow_add-line : goal.overflow_add-line
-overflow_add-line c = omega arith
-
-pub loop-line-smaller : goal.loop-line-smaller
-loop-line-smaller c = omega arith
+loop-line-init c = table_codes _ _ _ (codes_in c.args.codes.now) c.requires
 
 pub loop-line-preserved : goal.loop-line-preserved
 loop-line-preserved c =
-    let serve = c in
-    let code = serve.code_at.ensures in
-    let test = serve in
-    let loop = test.loop-line in
-    let table = loop.table in
-    let args = test.args in
-    let codes = spans_of args.text.now args.codes in (
-      omega (arith, test.loop-line-test.true),
-      rw serve.serve.ensures (rw code (table_line table (words args.text.now) codes loop.line test.loop-line-test.true loop.invariant.1)),
-    )
-
-pub shape_of-table : goal.shape_of-table
-shape_of-table c = c.loop-line.invariant.1.long ∙ sym c.requires.long
+    let loop = c.loop-line in
+    let own = code_at c.args.codes.now loop.line in
+    let stored = c.serve.ensures ∙ ap (λ (w : Word). set loop.table (place_of w) (with_line (entry_of loop.table w) loop.line)) (sym own) in
+    subst (λ (t : List ℕ). Tabled t (words c.args.text.now) (codes_in c.args.codes.now) (loop.line + 1)) (sym stored)
+    (table_line loop.table _ (codes_in c.args.codes.now) loop.line c.loop-line-test.true loop.invariant)
 
 pub returns : goal.returns
 returns c =
     let loop = c.loop-line in
     let eleven : loop.line ≡ 11 = omega arith in
-    rw eleven at loop.invariant.1
+    subst (Tabled loop.table (words c.args.text.now) (codes_in c.args.codes.now)) eleven loop.invariant

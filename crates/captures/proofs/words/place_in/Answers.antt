@@ -1,44 +1,16 @@
--- `captures::words::place_in` meets its contract. The invariant: the words passed, and the word's place among those that are left, come to
--- its place among all. The measure is what is left of the list. Assumes nothing.
-use Rattle.captures.specs.Words.{Word, same}
-use Rattle.std.proofs.Common.{sym, ap, ◌∙◌, arith}
-use Rattle.captures.proofs.Laws.Words.{place_here, place_next, place_none, words_over}
+-- `captures::words::place_in` meets its contract: each word is compared, and there are no more of them than bytes. Assumes nothing.
+use Rattle.std.proofs.Common.{rules, tests, arith, inl}
+use Rattle.std.proofs.lemmas.Iterator.Consumers.{YieldsList-from_first}
+use Rattle.std.proofs.lemmas.Iterator.Search.{position_from_yields_List}
+use Rattle.captures.specs.declared.words.Words.{Words}
+use Rattle.captures.specs.Words.{Word, same, words}
+use Rattle.captures.proofs.Laws.Words.{few_words, same_pointwise}
 use Rattle.captures.proofs.words.place_in.Goals as goal
 
-pub loop-from-init : goal.loop-from-init
-loop-from-init c = (omega arith, omega arith, omega arith)
-
-pub returns-then-same : goal.returns-then-same
-returns-then-same c =
-    let at = c in
-    let loop = at.loop-from in
-    let args = at.args in
-    let here = ap (λ (l : Word). same l args.word.now) (sym at.part.ensures) ∙ sym c.same.ensures ∙ c.if-same.true in
-    let found = place_here args.word.now _ _ _ at.word_end-end.ensures.stands here in
-    omega (arith, found, loop.invariant.2)
-
-pub overflow_add-from : goal.overflow_add-from
-overflow_add-from c = omega (arith, c.word_end-end.ensures.inside)
-
-pub overflow_add-place : goal.overflow_add-place
-overflow_add-place c = omega (arith, c.word_end-end.ensures.inside)
-
-pub loop-from-smaller : goal.loop-from-smaller
-loop-from-smaller c = omega (arith, c.word_end-end.ensures.further)
-
-pub loop-from-preserved : goal.loop-from-preserved
-loop-from-preserved c =
-    let at = c in
-    let loop = at.loop-from in
-    let args = at.args in
-    let here = ap (λ (l : Word). same l args.word.now) (sym at.part.ensures) ∙ sym c.same.ensures ∙ c.if-same.false in
-    let next = place_next args.word.now _ _ _ at.word_end-end.ensures.stands here in
-    let further = at.word_end-end.ensures.further in
-    let inside = at.word_end-end.ensures.inside in
-    (omega arith, omega arith, omega (arith, next, loop.invariant.2))
+pub position-requires-clause-fits : goal.position-requires-clause-fits
+position-requires-clause-fits c = let few = few_words c.args.list.now in inl (rw c.words_of.ensures (omega (arith, few)))
 
 pub returns : goal.returns
 returns c =
-    let loop = c.loop-from in
-    let args = c.args in
-    omega (arith, place_none args.word.now _ (words_over loop.from args.list.now c.loop-from-test.false), loop.invariant.2)
+    position_from_yields_List (λ (other : Word). same other c.args.word.now) c.position.new.self _ _ c.position.ensures.ran
+    (YieldsList-from_first (λ x. x.now) (λ (w : Words). words w.rest.now) {s = c.words_of.result} _ cc) (λ x b q k. search (rules, tests, same_pointwise))
