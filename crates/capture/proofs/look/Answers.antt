@@ -1,23 +1,29 @@
 -- `capture::look`: a line that stands has at least 7 bytes, all of them in the text. Assumes nothing.
-use mathlib.Core.Path.{sym, ◌∙◌}
-use native.Mathlib.Omega.{arith}
-use Rattle.lines.proofs.Laws.Session.{line_inside}
+use Rattle.std.proofs.Common.{◌≡◌, ◌+◌, ◌≤◌, List, ℕ, Ok, length, sym, ◌∙◌, arith}
+use Rattle.lines.specs.declared.reader.Line.{Line}
+use Rattle.lines.specs.Reading.{line_of, told_of}
+use Rattle.lines.proofs.Laws.Session.{line_long}
+use Rattle.lines.proofs.Laws.Told.{told_line}
 use Rattle.capture.proofs.look.Goals as goal
+
+-- the bytes of a line that was read
+inside : (text : List ℕ) (line : Line) → Ok line ≡ told_of (line_of text) → (7 ≤ line.length) × (line.length ≤ length text)
+inside text line read =
+    let told = told_line (line_of text) read in
+    let long = line_long text told.0 in
+    (omega (arith, told.2, long.0), omega (arith, told.2, long.1))
 
 pub overflow_add-from : goal.overflow_add-from
 overflow_add-from c =
-    let good = sym c.is_done.ensures ∙ c.if-not-is_done.false in
-    let inside = line_inside c.args.text.now c.loop-from.from c.loop-from-test.true c.read_line-line.ensures good in
-    omega (arith, inside.1, c.loop-from.invariant)
+    let bytes = inside _ _ (sym c.in-Ok.is ∙ c.read_line.ensures) in
+    omega (arith, bytes, c.loop-line.invariant)
 
-pub loop-from-smaller : goal.loop-from-smaller
-loop-from-smaller c =
-    let good = sym c.is_done.ensures ∙ c.if-not-is_done.false in
-    let inside = line_inside c.args.text.now c.loop-from.from c.loop-from-test.true c.read_line-line.ensures good in
-    omega (arith, inside.0, c.loop-from-test.true)
+pub loop-line-smaller : goal.loop-line-smaller
+loop-line-smaller c =
+    let bytes = inside _ _ (sym c.in-Ok.is ∙ c.read_line.ensures) in
+    omega (arith, bytes, c.loop-line.invariant)
 
-pub loop-from-preserved : goal.loop-from-preserved
-loop-from-preserved c =
-    let good = sym c.is_done.ensures ∙ c.if-not-is_done.false in
-    let inside = line_inside c.args.text.now c.loop-from.from c.loop-from-test.true c.read_line-line.ensures good in
-    omega (arith, inside, c.loop-from.invariant, c.counted-seen.ensures)
+pub loop-line-preserved : goal.loop-line-preserved
+loop-line-preserved c =
+    let bytes = inside _ _ (sym c.in-Ok.is ∙ c.read_line.ensures) in
+    (omega arith, c.counted-close.ensures, omega (arith, bytes, c.loop-line.invariant), omega (arith, bytes, c.loop-line.invariant), omega (arith, c.loop-line.invariant))

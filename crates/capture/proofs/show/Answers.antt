@@ -16,8 +16,8 @@ limit n short = omega arith
 pub slice_bounds-write_capture-end : goal.slice_bounds-write_capture-end
 slice_bounds-write_capture-end c = sym (length-replicate {A = ℕ} 590115 0)
 
-pub write_capture-written-requires : goal.write_capture-written-requires
-write_capture-written-requires c = serves _ _ (limit _ c.requires)
+pub write_capture-requires : goal.write_capture-requires
+write_capture-requires c = serves _ _ (limit _ c.requires)
 
 pub slice_bounds-first-end : goal.slice_bounds-first-end
-slice_bounds-first-end c = sym (c.write_capture-written.auto.out ∙ length-replicate {A = ℕ} 590115 0)
+slice_bounds-first-end c = sym (c.write_capture.auto.out ∙ length-replicate {A = ℕ} 590115 0)
