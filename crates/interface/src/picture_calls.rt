@@ -10,6 +10,7 @@ use controller::{Answer, Record};
 use dots::{Profile, Size, picture};
 
 // The panel that a number names: 0 the plain geometry of these columns and lines, 1 the 20 x 4 panel, 2 the divided row.
+#[tactic(auto, unfolding(crate::specs::PictureCalls::profile_of))]
 fn profile_of(profile: u8, columns: u8, lines: u8) -> Profile
     ensures { result ≡ profile_of profile columns lines }
 {

@@ -98,7 +98,7 @@ pub record EachDetermined : Type 0 where
   pub capture : (session out : List ℕ) → ExactlyOne (λ (x : Result ℕ Answer × List ℕ). CapturePromise session out x.0 x.1)
   pub wrong_word : (capture : List ℕ) → ExactlyOne (λ (x : Wrong). WrongWordPromise capture x)
   pub lacks_signal : (capture : List ℕ) (line : ℕ) → ExactlyOne (λ (x : Bool). LacksSignalPromise capture line x)
-  pub unknown_fall : (capture : List ℕ) → ExactlyOne (λ (x : Unknown). UnknownFallPromise capture x)
+  pub unknown_fall : (capture : List ℕ) → ExactlyOne (λ (x : Option Unknown). UnknownFallPromise capture x)
   pub draw : (form : Form) (rec : Record) (mem : List ℕ) (profile : Profile) (lit : Bool) (out : List ℕ)
       → ExactlyOne (λ (x : Result ℕ Answer × List ℕ). DrawPromise form rec mem profile lit out x.0 x.1)
   pub yaropesk_reset : (bytes mem : List ℕ)

@@ -33,6 +33,7 @@ use Rattle.lines.proofs.Laws.Digits.{either}
 use Rattle.lines.proofs.Laws.Nothing.{WritesNothing, writer_nothing}
 use Rattle.lines.proofs.Theorems.Read.{read_or_refused}
 use Rattle.lines.proofs.Theorems.Session.{fault_not_good}
+use Rattle.planner.specs.declared.wish.Wish.{Wish}
 use Rattle.planner.specs.Call.{reply_to}
 use Rattle.planner.proofs.Theorems.Wish.{plan_refusals}
 use Rattle.interface.specs.CaptureCalls.{import_call}
