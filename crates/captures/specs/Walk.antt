@@ -1,6 +1,6 @@
 -- Walks over a capture's text: where they stand, and what is left. Only the code's own contracts cite these.
 -- Assumes nothing.
-use Rattle.std.specs.Prelude.{◌≡◌, ℕ, ◌+◌, Bool, true, false, cond, ◌&&◌, ◌||◌, List, [], ◌∷◌, length, map, nat_le, nat_lt, Option, Some, None, Result, Ok, Err}
+use Rattle.std.specs.Prelude.{◌≡◌, ℕ, ◌+◌, Bool, true, false, cond, ◌&&◌, ◌||◌, List, [], ◌∷◌, length, map, nat_lt, Option, Some, None, Result, Ok, Err}
 use Rattle.std.specs.Option.{is_some, unwrap_or}
 use Rattle.controller.specs.declared.answers.Answer.{Answer}
 use Rattle.controller.specs.Answers.{is_done}
@@ -12,7 +12,7 @@ use Rattle.captures.specs.declared.definitions.Head.{Head as KeptHead}
 use Rattle.captures.specs.declared.scan.Scan.{Scan as KeptScan}
 use Rattle.captures.specs.declared.scan.Stamp.{Stamp as KeptStamp}
 use Rattle.captures.specs.Words.{Word, words}
-use Rattle.captures.specs.Form.{changes_come, number_of_level, numbers_of, stamp_limit}
+use Rattle.captures.specs.Form.{changes_come, number_of_level, numbers_of}
 use Rattle.captures.specs.Definitions.{Head, blank_head, defined_by}
 use Rattle.captures.specs.Falls.{Fall, Scan, blank_scan, ends_stamp, scanned_by, falls_from}
 use Rattle.captures.specs.Import.{kind_of, byte_of, wait_from, unknown_at}
@@ -68,10 +68,6 @@ with_levels scan levels =
       before = scan.before;
       strange = scan.strange;
     }
-
--- This is a stamp that ends the one before it.
-abbrev pub ends_by : Scan → ℕ → Bool
-ends_by scan stamp = changes_come scan.phase && (nat_le stamp stamp_limit && ends_stamp scan stamp)
 
 -- The same, where there may be no stamp.
 abbrev pub ends_at : Scan → Option ℕ → Bool

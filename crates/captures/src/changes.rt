@@ -77,7 +77,9 @@ impl<'a, 't> Capture<'a, 't> {
 
     // The capture with a word more, where that is a change of a short code that serves one line or none: most words are.
     pub fn change_short(&self, scan: Scan, word: &[u8]) -> Option<Scan>
-        ensures { IfSome result (λ next. (scan_in next ≡ scanned (words self.now.text.now) (codes_in self.now.codes) (scan_in scan) word.now) × (ends (scan_in scan) word.now ≡ false)) }
+        ensures { IfSome result (λ next.
+            (scan_in next ≡ scanned (words self.now.text.now) (codes_in self.now.codes) (scan_in scan) word.now)
+            × (ends (scan_in scan) word.now ≡ false)) }
     {
         if !scan.phase.changes_come() {
             return None;

@@ -39,13 +39,14 @@ impl Tally {
 fn bit(level: Level) -> u8
     ensures { (result ≡ bit_of (number_of_level level)) × (result ≤ 1) }
 {
-    if level == Level::High { 1 } else { 0 }
+    (level == Level::High) as u8
 }
 
 // Four lines as a number, the first worth 1.
 #[tactic(auto, unfolding(crate::specs::Import::four))]
 fn four(first: Level, second: Level, third: Level, fourth: Level) -> u8
-    ensures { (result ≡ four_of (number_of_level first) (number_of_level second) (number_of_level third) (number_of_level fourth))
+    ensures { (result
+        ≡ four_of (number_of_level first) (number_of_level second) (number_of_level third) (number_of_level fourth))
         × (result ≤ 15) }
 {
     bit(first) + 2 * bit(second) + 4 * bit(third) + 8 * bit(fourth)

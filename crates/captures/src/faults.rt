@@ -2,7 +2,8 @@
 ghost use Rattle.std.specs.Prelude.{◌≡◌, ◌&&◌};
 ghost use Rattle.captures.specs.Words.{words};
 ghost use Rattle.captures.specs.Falls.{blank_scan};
-ghost use Rattle.captures.specs.Faults.{falls_unknown, fault_of, fault_said, is_undeclared, is_wrong, unknown_from, unknown_of, unknown_told, wrong_in};
+ghost use Rattle.captures.specs.Faults.{falls_unknown, fault_of, fault_said, is_undeclared, is_wrong, wrong_in};
+ghost use Rattle.captures.specs.Faults.{unknown_from, unknown_of, unknown_told};
 ghost use Rattle.captures.specs.Promises.{LacksSignalPromise, UnknownFallPromise, WrongWordPromise};
 ghost use Rattle.captures.specs.Walk.{codes_in, scan_in};
 

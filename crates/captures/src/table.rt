@@ -11,7 +11,7 @@ use crate::form::Phase;
 // How many codes have one or two characters, each 21h to 7Eh.
 const SHORT_CODES: usize = 94 + 94 * 94;
 
-// A byte for each short code: the one line that it serves, or one of the three below.
+// A byte for each short code: the one line that it serves, or one of the three below. An Entry takes several bytes.
 pub type Table = [u8; SHORT_CODES];
 
 // The code is declared and serves no line.

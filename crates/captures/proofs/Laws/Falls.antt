@@ -93,10 +93,6 @@ pub or_none : (a : Bool) → a ≡ a || false
 or_none true = refl
 or_none false = refl
 
--- the second of two tests, where the first is false
-pub or_later : (a b c : Bool) → a ≡ false → c ≡ b → c ≡ a || b
-or_later a b c none is = is ∙ sym (ap (λ (t : Bool). t || b) none)
-
 pub declares_never : (phase : Phase) (ws : List Word) (code : Word) → over phase ≡ true → declares phase ws code ≡ false
 unfolding declares
 declares_never phase [] code is = refl

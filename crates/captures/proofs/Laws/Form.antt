@@ -99,13 +99,6 @@ pub number_over : (value i : ℕ) (w : Word) → length w ≤ i → number_of va
 unfolding number_of
 number_over value i w past = rw (drop_of_length-le w past)
 
-pub digit_below : (value byte : ℕ) → with_digit value byte ≤ no_stamp
-unfolding with_digit
-digit_below value byte =
-    cond-elim (λ (n : ℕ). n ≤ no_stamp) (between 0x30 0x39 byte && leb (value * 10 + (byte - 0x30)) stamp_limit) (value * 10 + (byte - 0x30)) no_stamp
-    (λ yes. let low = leb-true (value * 10 + (byte - 0x30)) stamp_limit (and_right (between 0x30 0x39 byte) _ yes) in omega arith)
-    (λ no. omega arith)
-
 -- past the limit no digit leads back, and within it each byte is a digit
 digit_past : (value byte : ℕ) → no_stamp ≤ value → no_stamp ≤ with_digit value byte
 unfolding with_digit

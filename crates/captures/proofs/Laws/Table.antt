@@ -92,27 +92,6 @@ place_plain (a ∷ b ∷ []) short =
     simp ((rank_plain a both.0).0, (rank_plain b both.1).0)
 place_plain (a ∷ b ∷ c ∷ w) short = absurd (omega arith)
 
--- the place by the code's length
-pub place_one : (w : Word) → length w ≡ 1 → place_of w ≡ place_of_one (rank_of (get_or w 0 0))
-unfolding place_of
-place_one [] is = absurd (omega arith)
-place_one (a ∷ []) is = refl
-place_one (a ∷ b ∷ w) is = absurd (omega arith)
-
-pub place_two : (w : Word) → length w ≡ 2 → place_of w ≡ place_of_two (rank_of (get_or w 0 0)) (rank_of (get_or w 1 0))
-unfolding place_of
-place_two [] is = absurd (omega arith)
-place_two (a ∷ []) is = absurd (omega arith)
-place_two (a ∷ b ∷ []) is = refl
-place_two (a ∷ b ∷ c ∷ w) is = absurd (omega arith)
-
-pub place_other : (w : Word) → (length w ≡ 1 → ⊥) → (length w ≡ 2 → ⊥) → place_of w ≡ short_codes
-unfolding place_of
-place_other [] not-one nor-two = refl
-place_other (a ∷ []) not-one nor-two = absurd (not-one refl)
-place_other (a ∷ b ∷ []) not-one nor-two = absurd (nor-two refl)
-place_other (a ∷ b ∷ c ∷ w) not-one nor-two = refl
-
 -- an element that is there is the same whatever stands for those that are not
 pub there : (l : List ℕ) (i d e : ℕ) → i < length l → get_or l i d ≡ get_or l i e
 there [] i d e less = absurd (omega arith)

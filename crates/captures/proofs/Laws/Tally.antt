@@ -1,6 +1,6 @@
 -- Laws of waits and lines: the wait of two stamps, and a line put into a buffer.
 -- Assumes nothing.
-use Rattle.std.proofs.Common.{◌≡◌, ℕ, ◌+◌, ◌%◌, ◌<◌, ◌≤◌, Bool, true, false, ◌&&◌, ◌||◌, eqb, List, Result, length, take, drop, sym, refl, ap, ◌∙◌, arith, take_at, le-ltb}
+use Rattle.std.proofs.Common.{◌≡◌, ℕ, ◌<◌, ◌≤◌, Bool, true, false, ◌&&◌, ◌||◌, eqb, List, Result, length, take, drop, sym, refl, ap, ◌∙◌, arith, take_at, le-ltb}
 use Rattle.controller.specs.Bus.{bad_transfer}
 use Rattle.controller.specs.declared.answers.Answer.{Answer}
 use Rattle.std.specs.Result.{result_unwrap_or}
@@ -13,10 +13,6 @@ use Rattle.captures.specs.Falls.{Scan}
 use Rattle.captures.specs.Falls.{level_at, fall_at}
 use Rattle.captures.specs.Import.{bit, kind_of, byte_of, wait_from, unknown_at}
 use Rattle.captures.specs.Walk.{since, line_at, longer, counted, Told, told, telling_one, telling, fall_with}
-
-pub wait_is : (r before stamp : ℕ) → r < 4294967296 → before < 4294967296 → stamp < 4294967296 → (r + before) % 4294967296 ≡ stamp → r ≡ wait_from before stamp
-unfolding wait_from
-wait_is r before stamp small also too wraps = omega (arith, wraps)
 
 -- a line as it was written into a buffer of at least 16 bytes: its length, and its bytes at the start
 pub record LineWritten (kind byte wait size : ℕ) (after : List ℕ) : Type 0 where

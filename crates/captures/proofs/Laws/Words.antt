@@ -67,10 +67,6 @@ pub words_over : (from : ℕ) (text : List ℕ) → length text ≤ from → wor
 unfolding words
 words_over from text past = ap words (drop_of_length-le text past)
 
-pub place_none : (w : Word) (all : List Word) → all ≡ [] → place_in all w ≡ 0
-unfolding place_in
-place_none w all is = ap (λ (l : List Word). place_in l w) is
-
 -- each byte of a plain word is one of 21h to 7Eh
 pub plain_all : (w : Word) → is_plain w ≡ list_all (between 0x21 0x7E) w
 unfolding is_plain
