@@ -63,7 +63,7 @@ each_determined =
       is_shown = λ n shift profile cell. one _;
       shown_at = λ n shift profile line column. one _;
       size_of = λ profile. one _;
-      plan = λ wish marks values out. two _ _ _ (record { told = refl; number = refl; buffer = refl }) (λ a l is. (is.told, is.buffer));
+      plan = λ wish marks values out. two _ _ _ (record { told = refl; buffer = refl }) (λ a l is. (is.told, is.buffer));
       hex_digit = λ number. one _;
       worth_of = λ byte. one _;
       three_digits = λ word. one _;
