@@ -1,5 +1,5 @@
 -- `capture::look`: a line that stands has at least 7 bytes, all of them in the text. Assumes nothing.
-use Rattle.std.proofs.Common.{◌≡◌, ◌+◌, ◌≤◌, List, ℕ, Ok, length, sym, ◌∙◌, arith}
+use Rattle.std.proofs.Common.{◌≡◌, ◌≤◌, List, ℕ, Ok, length, sym, ◌∙◌, arith}
 use Rattle.lines.specs.declared.reader.Line.{Line}
 use Rattle.lines.specs.Reading.{line_of, told_of}
 use Rattle.lines.proofs.Laws.Session.{line_long}
