@@ -63,6 +63,7 @@ fn look(text: &[u8]) -> Seen {
     let mut number = 1;
     let mut from = 0;
     let mut close = None;
+    // No index is counted: where the next line begins is known once this one is read.
     while let Ok(line) = read_line(&text[from..]) {
         close = counted(close, number, line.sent.wait);
         number += 1;

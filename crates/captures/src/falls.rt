@@ -113,7 +113,7 @@ pub fn add_up(length: usize, more: usize) -> usize
     }
 }
 
-// Puts what fits of a transfer's line at a place; returns the line's length.
+// Puts what fits of a transfer's line at a place; returns the line's length. The kind is the number that `write_line` takes.
 fn put_line(kind: u8, byte: u8, wait: u32, out: &mut [u8], at: usize) -> usize
     requires { bad_transfer kind byte ≡ false }
     ensures { (result ≡ length (line kind byte wait)) × (result ≤ 16)

@@ -25,7 +25,8 @@ pub enum Fault {
     Undeclared,
 }
 
-// The first word at fault, and where it begins; where there is none, the place is behind the text.
+// The first word at fault, and where it begins; where there is none, the place is behind the text (`WrongWordPromise`), so that
+// this is no Option.
 #[derive(Clone, Copy)]
 pub struct Wrong {
     pub fault: Fault,

@@ -91,6 +91,7 @@ fn walk(session: &[u8], out: &mut [u8]) -> Result<usize, Answer>
     let mut length = put_header(out);
     let mut rest = session;
     let mut stamp = 1u32;
+    // No index is counted: where the next line begins is known once this one is read.
     while !rest.is_empty() {
         let line = read_line(rest).map_err(|bad| bad.answer)?;
         stamp = stamp.wrapping_add(line.sent.wait);

@@ -22,7 +22,8 @@ pub struct Decision {
     pub effect: Effect,
 }
 
-// What the caller is told and given back.
+// What the caller is told and given back. No Result: byte and record come with every answer, and 5, 7 and 8 refuse nothing
+// (`TransferPromise`).
 #[derive(Clone, Copy, PartialEq, Eq)]
 pub struct Outcome {
     pub answer: Answer,

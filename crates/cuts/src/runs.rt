@@ -45,7 +45,8 @@ pub fn lay_out(wish: Wish, named: Named, room: &mut [u8; 2808]) -> &[[u8; 6]] {
     records.get(..count).unwrap_or(&[])
 }
 
-// The controller on the way, with its memory: the transfers sent so far, and whether one of them was refused as busy.
+// The controller on the way, with its memory: the transfers sent so far, and whether one of them was refused as busy. That is a
+// flag, since a run goes on behind a refusal.
 #[derive(Drop)]
 pub struct Bench {
     pub rec: Record,

@@ -81,6 +81,7 @@ impl Asked {
 pub fn read_options<E: Env>(env: &E, usual: Form) -> Option<Options> {
     let mut asked = Asked::default();
     let mut places = 1..word_count(env);
+    // No `for`: two of the words take the word behind them too.
     while let Some(at) = places.next() {
         // Nine bytes are the longest word that is known.
         let mut text = [0u8; 9];

@@ -52,7 +52,7 @@ pub fn three_digits(word: &[u8]) -> Option<u16>
     Some(hundreds * 100 + tens * 10 + ones)
 }
 
-// The letter of a kind.
+// The letter of a kind, by the number that `Sent` carries.
 #[tactic(auto, unfolding(crate::specs::Line::letter_of))]
 pub fn letter_for(kind: u8) -> u8
     ensures { result ≡ letter_of kind }

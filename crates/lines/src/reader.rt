@@ -17,7 +17,8 @@ pub struct Line {
 }
 
 // The fault of a text that begins with no line: the answer, and the offset of the first byte that cannot stand, or the text's
-// length where it ends early.
+// length where it ends early. That the answer is a fault each field says for itself (`fault`): an invariant of the type would have
+// to be proved wherever the definitions make one.
 #[derive(Clone, Copy)]
 pub struct BadLine {
     pub answer: Answer,
@@ -38,7 +39,7 @@ fn text_at(text: &[u8], place: usize) -> u8
     text.get(place).copied().unwrap_or(0)
 }
 
-// The kind: its letter, and its tab.
+// The kind: its letter, and its tab. It is the number that `Sent` carries.
 #[tactic(auto, unfolding(crate::specs::Reading::kind_read))]
 fn read_kind(text: &[u8]) -> Result<u8, BadLine>
     ensures kind { result ≡ kind_read text.now }

@@ -1,5 +1,6 @@
 // Text put into a lent buffer at a place, for reports whose length is not known before: what does not fit is left out. Each
-// function returns the place after what it put.
+// function returns the place after what it put. `Page` is for those who own their buffer; `import` and `capture` of the captures
+// write into the caller's, and what they promise is said by place and buffer (`Text.putting`).
 ghost use Rattle.lines.specs.Promises.{FirstPromise, PutBytePromise, PutHexPromise, PutNumberPromise, PutTextPromise};
 
 use crate::digits::hex_digit;

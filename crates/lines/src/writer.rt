@@ -42,7 +42,7 @@ pub fn write_line(kind: u8, byte: u8, wait: u32, out: &mut [u8]) -> Result<usize
     Ok(put_line(kind, byte, wait, out))
 }
 
-// A report's row, into a buffer of at least 42 bytes.
+// A report's row, into a buffer of at least 42 bytes. The answer is a number, and any may be told (`WriteRowPromise`).
 pub fn write_row(
     number: u64,
     answer: u8,

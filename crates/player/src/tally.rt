@@ -4,7 +4,7 @@ ghost use Rattle.player.specs.Standing.{counting, no_refusal};
 
 use controller::{Answer, is_refusal};
 
-// How many transfers were refused, and the first one's line and answer: 0 and done where none was.
+// How many transfers were refused, and the first one's line and answer: 0 and done where none was (`NoneIsFirst`, `FirstTold`).
 #[derive(Clone, Copy)]
 pub struct Tally {
     pub count: u64,

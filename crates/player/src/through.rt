@@ -7,7 +7,8 @@ use controller::{Answer, Frequency, Record, after_reset, reset};
 
 // How a text leaves the bench: done or the answer of its bad line, the number of the line that would be played next (the bad
 // one's) and the place in the text where it begins, the record and the memory; how many transfers were refused, and the first
-// one's line and answer, 0 and done where none was.
+// one's line and answer, 0 and done where none was. Each stands for itself, and not in a Result or an Option: `BadLineTold`,
+// `NoneIsFirst` and `FirstTold` name them.
 #[derive(Clone, Copy)]
 pub struct Standing {
     pub answer: Answer,

@@ -19,14 +19,15 @@ pub struct Place {
     pub tally: Tally,
 }
 
-// Where a line or a whole walk ended: done, or a bad line's answer, and the place.
+// Where a line or a whole walk ended: done, or a bad line's answer, and the place, which both have: so it is no Result.
 #[derive(Clone, Copy)]
 pub struct Ended {
     pub answer: Answer,
     pub place: Place,
 }
 
-// Writes a row where rows are wanted; returns the place after it.
+// Writes a row where rows are wanted; returns the place after it. A closure in place of `rows` would have to promise each of the
+// three clauses of `RowTold` for the walk, and would be no plainer.
 fn tell(
     rows: bool,
     line: u64,

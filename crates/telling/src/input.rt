@@ -20,6 +20,7 @@ pub fn read_input<R: Read>(from: &mut R, input: &mut [u8]) -> Result<usize, Unre
     ensures end { OnOk result (read_of result < length input.new → IsAtEnd (R.remaining from.new)) }
 {
     let mut length = 0;
+    // No index is counted: a read tells how many bytes it brought.
     while length < input.len() {
         let Ok(more) = from.read(&mut input[length..]) else {
             return Err(Unread { length });
