@@ -22,8 +22,8 @@ const NAME: &str = "capture";
 // What the capture of the longest session wants: nine bytes for each byte of it, and 291 more.
 const OUTPUT: usize = 9 * LIMIT + 291;
 
-// The pulses that run into the one before them, since their lines, but the first of a session, have a wait below 2: how many there
-// are, and the first one's line and wait.
+// The pulses that run into the one before them, since their lines, but the first of a session, have a wait below 2: how many
+// there are, and the first one's line and wait.
 #[derive(Clone, Copy)]
 pub struct Close {
     pub pulses: u64,

@@ -1,6 +1,7 @@
 -- The definitions of a capture: which codes are declared, and which of them the eleven needed signals have (request b).
 -- Assumes nothing.
-use Rattle.std.specs.Prelude.{ℕ, zero, suc, Bool, false, cond, not, ◌&&◌, ◌||◌, List, [], ◌∷◌, replicate, nat_lt, slice_index_or, slice_set}
+use Rattle.std.specs.Prelude.{ℕ, zero, suc, Bool, false, cond, not, ◌&&◌, ◌||◌, List, [], ◌∷◌, replicate, nat_lt, slice_index_or}
+use Rattle.std.specs.Prelude.{slice_set}
 use Rattle.lines.specs.Text.{bytes_of}
 use Rattle.captures.specs.declared.form.Phase.{Phase}
 use Rattle.captures.specs.declared.form.Phase.TheVariants.{Section}

@@ -1,14 +1,15 @@
 -- The lines as they stand, stamp by stamp, and the falls of E (request b).
 -- Assumes nothing.
-use Rattle.std.specs.Prelude.{ℕ, zero, suc, Bool, true, false, cond, not, ◌&&◌, ◌||◌, List, [], ◌∷◌, ◌++◌, drop, replicate, ◌==◌, slice_index, slice_index_or, slice_set}
+use Rattle.std.specs.Prelude.{ℕ, zero, suc, Bool, true, false, cond, not, ◌&&◌, ◌||◌, List, [], ◌∷◌, ◌++◌, drop, replicate, ◌==◌}
+use Rattle.std.specs.Prelude.{slice_index, slice_index_or, slice_set}
 use Rattle.captures.specs.declared.form.Phase.{Phase}
 use Rattle.captures.specs.declared.form.Phase.TheVariants.{Section}
 use Rattle.captures.specs.Words.{Word, same}
 use Rattle.captures.specs.Form.{past, changes_come, is_stamp, stamp_of, is_change, level_set}
 use Rattle.captures.specs.Definitions.{declares}
 
--- What has been read of a capture: the phase, the levels of the eleven lines, whether a stamp has come, the stamp, E as it stood at
--- the stamp before (2 where there was none), and whether a code was changed that is not declared.
+-- What has been read of a capture: the phase, the levels of the eleven lines, whether a stamp has come, the stamp, E as it stood
+-- at the stamp before (2 where there was none), and whether a code was changed that is not declared.
 pub record Scan : Type 0 where
   pub phase : Phase
   pub levels : List ℕ

@@ -1,6 +1,7 @@
 -- What is at fault in a capture that is refused, and where, for people who mend it (request b).
 -- Assumes nothing.
-use Rattle.std.specs.Prelude.{ℕ, ◌+◌, Bool, true, false, cond, not, ◌&&◌, List, [], ◌∷◌, length, drop, nat_lt, slice_index_or, Option, Some, None}
+use Rattle.std.specs.Prelude.{ℕ, ◌+◌, Bool, true, false, cond, not, ◌&&◌, List, [], ◌∷◌, length, drop, nat_lt, slice_index_or}
+use Rattle.std.specs.Prelude.{Option, Some, None}
 use Rattle.captures.specs.declared.faults.Fault.{Fault}
 use Rattle.captures.specs.declared.faults.Fault.TheVariants.{Unfinished, Misplaced, Twice, Undeclared}
 use Rattle.captures.specs.declared.faults.Wrong.{Wrong}

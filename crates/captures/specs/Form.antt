@@ -1,6 +1,7 @@
 -- The subset of Value Change Dump text that is read: its sections, stamps and changes, word by word (request b).
 -- Assumes nothing.
-use Rattle.std.specs.Prelude.{ℕ, ◌+◌, ◌-◌, ◌*◌, Bool, true, false, cond, ◌&&◌, ◌||◌, List, [], ◌∷◌, ◌==◌, nat_le, nat_lt, ◌≡◌, map, drop, Option, Some, None}
+use Rattle.std.specs.Prelude.{ℕ, ◌+◌, ◌-◌, ◌*◌, Bool, true, false, cond, ◌&&◌, ◌||◌, List, [], ◌∷◌, ◌==◌, nat_le, nat_lt, ◌≡◌}
+use Rattle.std.specs.Prelude.{map, drop, Option, Some, None}
 use Prim.Native.Char.{code}
 use Rattle.lines.specs.Digits.{between}
 use Rattle.captures.specs.declared.form.Level.{Level}

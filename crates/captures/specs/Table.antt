@@ -1,6 +1,7 @@
 -- The table of short codes: what a change of each does to the lines. Only the code's own contracts cite these.
 -- Assumes nothing.
-use Rattle.std.specs.Prelude.{◌≡◌, ℕ, ◌+◌, ◌-◌, ◌*◌, ◌<◌, true, false, cond, List, [], ◌∷◌, length, ◌==◌, ◌≢◌, nat_lt, slice_index_or, slice_set}
+use Rattle.std.specs.Prelude.{◌≡◌, ℕ, ◌+◌, ◌-◌, ◌*◌, ◌<◌, true, false, cond, List, [], ◌∷◌, length, ◌==◌, ◌≢◌, nat_lt}
+use Rattle.std.specs.Prelude.{slice_index_or, slice_set}
 use Rattle.lines.specs.Digits.{between}
 use Rattle.captures.specs.declared.form.Phase.{Phase}
 use Rattle.captures.specs.declared.table.Entry.{Entry}

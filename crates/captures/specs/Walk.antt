@@ -1,6 +1,7 @@
 -- Walks over a capture's text: where they stand, and what is left. Only the code's own contracts cite these.
 -- Assumes nothing.
-use Rattle.std.specs.Prelude.{◌≡◌, ℕ, ◌+◌, Bool, true, false, cond, ◌&&◌, ◌||◌, List, [], ◌∷◌, length, map, nat_lt, Option, Some, None, Result, Ok, Err}
+use Rattle.std.specs.Prelude.{◌≡◌, ℕ, ◌+◌, Bool, true, false, cond, ◌&&◌, ◌||◌, List, [], ◌∷◌, length, map, nat_lt, Option, Some}
+use Rattle.std.specs.Prelude.{None, Result, Ok, Err}
 use Rattle.std.specs.Option.{is_some, unwrap_or}
 use Rattle.controller.specs.declared.answers.Answer.{Answer}
 use Rattle.controller.specs.Answers.{is_done}
@@ -74,8 +75,8 @@ abbrev pub ends_at : Scan → Option ℕ → Bool
 ends_at scan None = false
 ends_at scan (Some stamp) = changes_come scan.phase && ends_stamp scan stamp
 
--- What is counted of the falls: whether there was one, the last one's stamp, whether a needed line was at x or z, and the length of
--- their lines.
+-- What is counted of the falls: whether there was one, the last one's stamp, whether a needed line was at x or z, and the length
+-- of their lines.
 pub record Tally : Type 0 where
   pub fell : Bool
   pub last : ℕ

@@ -1,7 +1,8 @@
 -- "Each is given exactly where its row applies, in order": the rows of transfer and reset, each with its condition in the table's
 -- own words (document 01, "What each number says").
 -- Assumes nothing.
-use Rattle.std.specs.Prelude.{Bool, true, false, cond, not, ◌&&◌, List, [], ◌∷◌, ◌⊎◌, ◌≡◌, ℕ, ◌-◌, ◌≤◌, ◌<◌, leb, eqb, length, Option, Some, None}
+use Rattle.std.specs.Prelude.{Bool, true, false, cond, not, ◌&&◌, List, [], ◌∷◌, ◌⊎◌, ◌≡◌, ℕ, ◌-◌, ◌≤◌, ◌<◌, leb, eqb, length}
+use Rattle.std.specs.Prelude.{Option, Some, None}
 use Rattle.controller.specs.declared.cells.Counter.{Counter}
 use Rattle.controller.specs.declared.cells.Counter.TheVariants.{Display, Pattern}
 use Rattle.controller.specs.declared.execute.Transfer.{Transfer}

@@ -2,7 +2,8 @@
 -- other field as it was (document 01, "One transfer"). A rule that is bent in code and definition alike is caught here. Each time
 -- is that of 250 kHz, taken at the record's frequency.
 -- Assumes nothing.
-use Rattle.std.specs.Prelude.{Bool, true, false, cond, not, ◌&&◌, List, ◌⊎◌, ◌≡◌, ℕ, ◌+◌, ◌-◌, ◌/◌, ◌%◌, ◌≤◌, ◌<◌, ltb, eqb, get_or, length}
+use Rattle.std.specs.Prelude.{Bool, true, false, cond, not, ◌&&◌, List, ◌⊎◌, ◌≡◌, ℕ, ◌+◌, ◌-◌, ◌/◌, ◌%◌, ◌≤◌, ◌<◌, ltb, eqb}
+use Rattle.std.specs.Prelude.{get_or, length}
 use Rattle.controller.specs.declared.cells.Counter.{Counter}
 use Rattle.controller.specs.declared.cells.Counter.TheVariants.{Display, Pattern}
 use Rattle.controller.specs.declared.decision.Decision.{Decision}

@@ -22,8 +22,8 @@ pub enum Transfer {
     Read(u8),
 }
 
-// Two functions, since a flag for which time would be no plainer. Clear and Home take the long time, all else that takes time the short one: 1,640 and 40 microseconds at 250 kHz (document
-// 002), and at another frequency as much longer or shorter.
+// Clear and Home take the long time, all else that takes time the short one: 1,640 and 40 microseconds at 250 kHz (document
+// 002), and at another frequency as much longer or shorter. Two functions, since a flag for which of them would be no plainer.
 #[tactic(auto, unfolding(crate::specs::Execute::short_time))]
 pub fn short_time(frequency: Frequency) -> u32
     ensures { ShortTimePromise frequency result }

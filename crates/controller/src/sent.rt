@@ -1,8 +1,8 @@
 // A transfer as it is sent, and its six bytes in a plan: kind, byte, wait little-endian.
 ghost use Rattle.controller.specs.Promises.{LittleEndianPromise, NumberFromPromise, SixBytesPromise};
 
-// The number of its kind (`Kind`), its byte, and the wait since the transfer before it. `kind` stays a number, since one above 3 can
-// be sent too and is answered 3 (`TransferPromise`).
+// The number of its kind (`Kind`), its byte, and the wait since the transfer before it. `kind` stays a number, since one above 3
+// can be sent too and is answered 3 (`TransferPromise`).
 #[derive(Clone, Copy, PartialEq, Eq)]
 pub struct Sent {
     pub kind: u8,

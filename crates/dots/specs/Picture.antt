@@ -1,7 +1,8 @@
 -- The dots of a picture and the call that draws it, with its refusals in order (document 01, "The dots", "What each number
 -- says").
 -- Assumes nothing.
-use Rattle.std.specs.Prelude.{Bool, false, cond, not, ◌&&◌, ◌||◌, List, ◌≡◌, ℕ, zero, suc, ◌+◌, ◌*◌, ◌/◌, ◌%◌, ltb, eqb, length, get_or, set, Option, Some, None, Result, Ok, Err, ⊤}
+use Rattle.std.specs.Prelude.{Bool, false, cond, not, ◌&&◌, ◌||◌, List, ◌≡◌, ℕ, zero, suc, ◌+◌, ◌*◌, ◌/◌, ◌%◌, ltb, eqb, length}
+use Rattle.std.specs.Prelude.{get_or, set, Option, Some, None, Result, Ok, Err, ⊤}
 use Rattle.controller.specs.declared.cells.Counter.{Counter}
 use Rattle.controller.specs.declared.cells.Counter.TheVariants.{Display, Pattern}
 use Rattle.controller.specs.declared.answers.Answer.{Answer}

@@ -1,5 +1,5 @@
-// A panel drawn for people: its dots in a frame, as block characters or as a bitmap, its letters, or its cells listed, each written
-// into a lent buffer.
+// A panel drawn for people: its dots in a frame, as block characters or as a bitmap, its letters, or its cells listed, each
+// written into a lent buffer.
 #![tactic(auto)]
 
 mod bitmap;

@@ -1,7 +1,8 @@
 -- What is proved of the bytes of a record and of a wish, and of the calls: each theorem is a type here, and its proof stands in
 -- proofs/Theorems.
 -- Assumes nothing.
-use Rattle.std.specs.Prelude.{true, cond, ◌||◌, List, [], ◌∷◌, ◌⊎◌, ◌≡◌, ℕ, ◌+◌, ◌*◌, ◌%◌, ◌<◌, ◌≤◌, eqb, length, get_or, Option, Some, None}
+use Rattle.std.specs.Prelude.{true, cond, ◌||◌, List, [], ◌∷◌, ◌⊎◌, ◌≡◌, ℕ, ◌+◌, ◌*◌, ◌%◌, ◌<◌, ◌≤◌, eqb, length, get_or, Option}
+use Rattle.std.specs.Prelude.{Some, None}
 use Rattle.controller.specs.declared.answers.Answer.{Answer}
 use Rattle.controller.specs.declared.«record».Record.{Record}
 use Rattle.controller.specs.Answers.{is_refusal, number_of, Row, Tells}

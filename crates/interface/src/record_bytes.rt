@@ -1,7 +1,9 @@
 // A controller's record as 24 bytes.
 ghost use Rattle.std.specs.Prelude.{◌≡◌, ◌∷◌, [], cond, length, Some, None};
-ghost use Rattle.interface.specs.RecordBytes.{counter_from, frequency_from, half_byte, half_from, high_byte, is_record_long, low_byte};
-ghost use Rattle.interface.specs.RecordBytes.{memory_byte, record_bytes, record_from, record_in, same_bytes, value_byte, width_byte};
+ghost use Rattle.interface.specs.RecordBytes.{counter_from, frequency_from, half_byte, half_from, high_byte, is_record_long};
+ghost use Rattle.interface.specs.RecordBytes.{low_byte};
+ghost use Rattle.interface.specs.RecordBytes.{memory_byte, record_bytes, record_from, record_in, same_bytes, value_byte};
+ghost use Rattle.interface.specs.RecordBytes.{width_byte};
 
 use controller::{
     Control, Counter, Entry, Frequency, Function, Half, Record, cell_of, little_endian, number_from,

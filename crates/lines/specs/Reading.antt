@@ -1,7 +1,8 @@
 -- Reading the line at the start of a text from the left, field by field: kind, byte, wait, ending. The first byte that cannot
 -- stand is its fault (document 01, "Session lines"; document 02, c).
 -- Assumes nothing.
-use Rattle.std.specs.Prelude.{Bool, cond, not, ◌&&◌, ◌||◌, List, [], ◌∷◌, ℕ, ◌+◌, ◌*◌, ltb, leb, eqb, get_or, drop, Result, Ok, Err}
+use Rattle.std.specs.Prelude.{Bool, cond, not, ◌&&◌, ◌||◌, List, [], ◌∷◌, ℕ, ◌+◌, ◌*◌, ltb, leb, eqb, get_or, drop, Result, Ok}
+use Rattle.std.specs.Prelude.{Err}
 use Rattle.controller.specs.declared.answers.Answer.{Answer}
 use Rattle.controller.specs.declared.answers.Answer.TheVariants.{Done, BadKind, BadByte, BadWait, NoNewline}
 use Rattle.controller.specs.declared.sent.Sent.{Sent}

@@ -17,8 +17,8 @@ pub struct Line {
 }
 
 // The fault of a text that begins with no line: the answer, and the offset of the first byte that cannot stand, or the text's
-// length where it ends early. That the answer is a fault each field says for itself (`fault`): an invariant of the type would have
-// to be proved wherever the definitions make one.
+// length where it ends early. That the answer is a fault each field says for itself (`fault`): an invariant of the type would
+// have to be proved wherever the definitions make one.
 #[derive(Clone, Copy)]
 pub struct BadLine {
     pub answer: Answer,

@@ -128,7 +128,8 @@ at_frequency frequency wish =
       frequency = frequency;
     }
 
--- A plan for a frequency that is not above the controller's serves too: the panel stands as wished, at the controller's frequency.
+-- A plan for a frequency that is not above the controller's serves too: the panel stands as wished, at the controller's
+-- frequency.
 abbrev pub SlowerServes : Type 0
 SlowerServes =
     (wish : Wish) (marks values : List ℕ) (start : State) → Asked wish marks values start

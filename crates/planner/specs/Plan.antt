@@ -1,6 +1,7 @@
 -- The plan: the transfers that bring a panel into a wished state (document 01, "The plan").
 -- Assumes nothing.
-use Rattle.std.specs.Prelude.{Bool, true, false, cond, ◌&&◌, List, [], ◌∷◌, ◌++◌, ℕ, zero, suc, ◌+◌, ◌-◌, ltb, eqb, get_or, replicate}
+use Rattle.std.specs.Prelude.{Bool, true, false, cond, ◌&&◌, List, [], ◌∷◌, ◌++◌, ℕ, zero, suc, ◌+◌, ◌-◌, ltb, eqb, get_or}
+use Rattle.std.specs.Prelude.{replicate}
 use Rattle.controller.specs.Cells.{address_set}
 use Rattle.controller.specs.Execute.{short_time, long_time}
 use Rattle.controller.specs.Halves.{high_half, low_half}

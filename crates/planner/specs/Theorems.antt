@@ -1,6 +1,7 @@
 -- What is proved of the definitions beside demand 3: each theorem is a type here, and its proof stands in proofs/Theorems.
 -- Assumes nothing.
-use Rattle.std.specs.Prelude.{true, false, cond, List, [], ◌∷◌, map, ◌⊎◌, ◌↔◌, ◌≡◌, ℕ, zero, suc, ◌≤◌, ◌<◌, length, get_or, take, drop, replicate}
+use Rattle.std.specs.Prelude.{true, false, cond, List, [], ◌∷◌, map, ◌⊎◌, ◌↔◌, ◌≡◌, ℕ, zero, suc, ◌≤◌, ◌<◌, length, get_or, take}
+use Rattle.std.specs.Prelude.{drop, replicate}
 use Rattle.controller.specs.Answers.{number_of, Row, Tells}
 use Rattle.controller.specs.Record.{sound}
 use Rattle.controller.specs.Oscillator.{newer, older}

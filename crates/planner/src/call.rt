@@ -24,8 +24,8 @@ fn write_plan(wish: Wish, marks: &Cells, values: &Cells, out: &mut Buffer) -> us
     pen.at
 }
 
-// The plan for a wish: marks say which of the 144 cells to write, values what to write there. Six bytes a record; how many records
-// were written is told.
+// The plan for a wish: marks say which of the 144 cells to write, values what to write there. Six bytes a record; how many
+// records were written is told.
 pub fn plan(wish: Wish, marks: &[u8], values: &[u8], out: &mut [u8]) -> Result<usize, Answer>
     ensures { PlanPromise wish marks.now values.now out.old result out.new }
 {

@@ -16,8 +16,8 @@ pub struct Wish {
     pub frequency: Frequency,
 }
 
-// A byte for each of the 144 cells: its mark, or its value. Marks and values are lent side by side, since a contract would have to
-// reach through a struct of both loans for each (`cells.entry.marks.now`), and only `write_cell` reads both.
+// A byte for each of the 144 cells: its mark, or its value. Marks and values are lent side by side, since a contract would have
+// to reach through a struct of both loans for each (`cells.entry.marks.now`), and only `write_cell` reads both.
 pub type Cells = [u8; 144];
 
 // Whether each mark is 0 or 1.

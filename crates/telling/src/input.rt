@@ -12,8 +12,9 @@ pub struct Unread {
 }
 
 // Reads until the input ends, a read fails or the buffer is full, and tells how many bytes stand at the start of the buffer. What
-// is put there are the next bytes of the input, none of them lost; where no read fails and the buffer has room left, nothing is left
-// of the input. std's `read_to_end` needs memory of its own, and its `read_exact` does not tell how much came before the end.
+// is put there are the next bytes of the input, none of them lost; where no read fails and the buffer has room left, nothing is
+// left of the input. std's `read_to_end` needs memory of its own, and its `read_exact` does not tell how much came before the
+// end.
 pub fn read_input<R: Read>(from: &mut R, input: &mut [u8]) -> Result<usize, Unread>
     ensures fits { read_of result ≤ length input.new }
     ensures bytes { Consumes (R.remaining from.old) (R.remaining from.new) (take (read_of result) input.new) }
