@@ -12,8 +12,8 @@ use lines::{first, read_line};
 use std::io::Write;
 use std::process::ExitCode;
 use telling::{
-    INPUT, LIMIT, Unheard, read_input, send_or_tell, status_of, tell, tell_bad_line, tell_too_long,
-    tell_unread,
+    INPUT, LIMIT, Unheard, Unsent, read_input, send_or_tell, status_of, tell, tell_bad_line,
+    tell_too_long, tell_unread,
 };
 
 // The program's name, before what it tells.
@@ -127,5 +127,5 @@ fn run(rt: HostRuntime) -> Result<(), Unheard> {
 }
 
 fn main(rt: HostRuntime) -> ExitCode {
-    status_of(run(rt))
+    status_of(run(rt).map_err(Unsent::from))
 }

@@ -13,11 +13,11 @@ mod wishes;
 
 use report::Report;
 use std::process::ExitCode;
-use telling::{heard, send, status_of};
+use telling::{send, status_of};
 
 fn main(rt: HostRuntime) -> ExitCode {
     let mut report = Report::new();
     // A page takes every text, so this does not fail.
     let _ = report.play_all();
-    status_of(heard(send(&mut rt.stdout(), report.page.text())))
+    status_of(send(&mut rt.stdout(), report.page.text()))
 }

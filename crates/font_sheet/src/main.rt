@@ -9,7 +9,7 @@ use dots::{Profile, Size, picture};
 use lines::Page;
 use std::fmt::Write;
 use std::process::ExitCode;
-use telling::{heard, send, status_of};
+use telling::{send, status_of};
 
 // With more room than the sheet takes.
 type Sheet = Page<6_144>;
@@ -92,5 +92,5 @@ fn put_sheet(sheet: &mut Sheet) {
 fn main(rt: HostRuntime) -> ExitCode {
     let mut sheet = Sheet::new();
     put_sheet(&mut sheet);
-    status_of(heard(send(&mut rt.stdout(), sheet.text())))
+    status_of(send(&mut rt.stdout(), sheet.text()))
 }

@@ -141,5 +141,5 @@ fn run(rt: HostRuntime) -> Result<(), Unheard> {
 }
 
 fn main(rt: HostRuntime) -> ExitCode {
-    status_of(run(rt))
+    status_of(run(rt).map_err(Unsent::from))
 }

@@ -8,7 +8,7 @@ use captures::import;
 use explain::tell_refusal;
 use lines::first;
 use std::process::ExitCode;
-use telling::{Unheard, read_input, send_or_tell, status_of, tell, tell_unread};
+use telling::{Unheard, Unsent, read_input, send_or_tell, status_of, tell, tell_unread};
 
 // The program's name, before what it tells.
 const NAME: &str = "import";
@@ -51,5 +51,5 @@ fn run(rt: HostRuntime) -> Result<(), Unheard> {
 }
 
 fn main(rt: HostRuntime) -> ExitCode {
-    status_of(run(rt))
+    status_of(run(rt).map_err(Unsent::from))
 }

@@ -12,8 +12,8 @@ use options::asked_frequency;
 use player::{play, play_through};
 use std::process::ExitCode;
 use telling::{
-    INPUT, LIMIT, Unheard, read_input, send_or_tell, status_of, tell, tell_bad_line, tell_too_long,
-    tell_unread,
+    INPUT, LIMIT, Unheard, Unsent, read_input, send_or_tell, status_of, tell, tell_bad_line,
+    tell_too_long, tell_unread,
 };
 
 // The program's name, before what it tells.
@@ -76,5 +76,5 @@ fn run(rt: HostRuntime) -> Result<(), Unheard> {
 }
 
 fn main(rt: HostRuntime) -> ExitCode {
-    status_of(run(rt))
+    status_of(run(rt).map_err(Unsent::from))
 }

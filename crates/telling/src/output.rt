@@ -1,5 +1,5 @@
 // Writing a text, and what became of it.
-ghost use Rattle.std.specs.Prelude.{◌≡◌, ◌↔◌, OnOk, IsOk, IsErr};
+ghost use Rattle.std.specs.Prelude.{◌≡◌, ◌↔◌, OnOk, IsErr};
 ghost use Rattle.std.specs.Io.KnownBytes.{Appends};
 ghost use Rattle.std.specs.Process.{exit_status};
 
@@ -18,6 +18,12 @@ pub enum Unsent {
 // Nobody reads the program any more: there is nobody left to write to, and it ends at once, without a word (`status_of`).
 #[derive(Clone, Copy, PartialEq, Eq)]
 pub struct Unheard;
+
+impl From<Unheard> for Unsent {
+    fn from(_: Unheard) -> Unsent {
+        Unsent::Unheard
+    }
+}
 
 // Writes all of a text.
 pub fn send<W: Write>(to: &mut W, text: &[u8]) -> Result<(), Unsent>
@@ -41,12 +47,12 @@ pub fn heard(sent: Result<(), Unsent>) -> Result<(), Unheard>
 
 // What a program ends with: 0, or 141 where nobody reads it any more, which is what a shell tells of a program that the system's
 // signal PIPE ended. std has that signal ignored, so that a write fails in its place.
-pub fn status_of(run: Result<(), Unheard>) -> ExitCode
-    ensures unheard { IsErr run → exit_status result ≡ 141 }
-    ensures heard { IsOk run → exit_status result ≡ 0 }
+pub fn status_of(sent: Result<(), Unsent>) -> ExitCode
+    ensures unheard { sent ≡ Err Unsent.Unheard → exit_status result ≡ 141 }
+    ensures heard { (sent ≡ Err Unsent.Unheard → ⊥) → exit_status result ≡ 0 }
 {
-    match run {
-        Ok(()) => ExitCode::from(0),
-        Err(Unheard) => ExitCode::from(141),
+    match sent {
+        Ok(()) | Err(Unsent::Failed) => ExitCode::from(0),
+        Err(Unsent::Unheard) => ExitCode::from(141),
     }
 }

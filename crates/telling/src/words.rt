@@ -1,5 +1,5 @@
 // What is told on standard error. Where even that cannot be written, there is nobody left to tell.
-ghost use Rattle.std.specs.Prelude.{◌≡◌, true, IsOk};
+ghost use Rattle.std.specs.Prelude.{◌≡◌, ◌↔◌, true, IsErr, IsOk};
 ghost use Rattle.std.specs.Io.KnownBytes.{Appends};
 
 use crate::output::{Unheard, Unsent, heard, send};
@@ -71,7 +71,8 @@ pub fn whole_or_told<E: io::Write>(
     errors: &mut E,
     program: &str,
 ) -> Result<bool, Unheard>
-    ensures { result ≡ Ok true → IsOk sent }
+    ensures whole { result ≡ Ok true ↔ IsOk sent }
+    ensures unheard { sent ≡ Err Unsent.Unheard → IsErr result }
 {
     match sent {
         Ok(()) => Ok(true),

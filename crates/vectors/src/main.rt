@@ -15,12 +15,12 @@ mod shapes;
 
 use report::Report;
 use std::process::ExitCode;
-use telling::{heard, send, status_of};
+use telling::{send, status_of};
 
 // The report is gathered and written once.
 fn main(rt: HostRuntime) -> ExitCode {
     let mut report = Report::new();
     // A page takes every text, so this does not fail.
     let _ = report.play_all();
-    status_of(heard(send(&mut rt.stdout(), report.page.text())))
+    status_of(send(&mut rt.stdout(), report.page.text()))
 }
