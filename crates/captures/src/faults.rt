@@ -16,7 +16,7 @@ use crate::session::read_head;
 use crate::table::blank_table;
 use crate::words::words_of;
 
-// What is wrong with a text: a word, or only that the text is unfinished.
+// What is wrong with a text: a word, or that the text lacks its end, a fault of its own, which callers tell in words.
 #[derive(Clone, Copy, PartialEq, Eq)]
 pub enum Fault {
     Unfinished,
