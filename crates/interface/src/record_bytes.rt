@@ -152,11 +152,7 @@ pub fn record_from(bytes: &[u8]) -> Record
 pub fn if_own<T: Copy + Drop>(found: T, own: &[u8], bytes: &[u8]) -> Option<T>
     ensures { result ≡ cond (same_bytes bytes.now own.now) (Some found) None }
 {
-    if check::same(bytes, own) {
-        Some(found)
-    } else {
-        None
-    }
+    if bytes == own { Some(found) } else { None }
 }
 
 // Whether bytes are as many as a record has.
