@@ -9,7 +9,8 @@ use crate::record_bytes::{is_record_long, read_record, record_from, write_record
 use crate::told::{refused, returned};
 use controller::{Answer, Outcome, Record, is_whole, reset, transfer};
 
-// Leaves the record of an outcome in its bytes and tells the rest.
+// Leaves the record of an outcome in its bytes and tells the rest. The bytes are lent by C, of any length: with
+// `<&mut [u8; 24]>::try_from` in place of the `requires` the proof did not close of what stands there when the call returns.
 fn leave(outcome: Outcome, bytes: &mut [u8]) -> u32
     requires { length bytes.old ≡ 24 }
     ensures { Left outcome result bytes.new }
