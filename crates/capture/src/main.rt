@@ -12,12 +12,12 @@ use lines::{first, read_line};
 use std::io::Write;
 use std::process::ExitCode;
 use telling::{
-    INPUT, LIMIT, Unheard, Unsent, read_input, send_or_tell, status_of, tell, tell_bad_line,
-    tell_too_long, tell_unread,
+    INPUT, LIMIT, Unheard, Unsent, read_input, send_or_tell, status_of, tell_bad_line,
+    tell_too_long, tell_unread, tell_words,
 };
 
 // The program's name, before what it tells.
-const NAME: &str = "capture";
+const NAME: &[u8] = b"capture";
 
 // What the capture of the longest session wants: nine bytes for each byte of it, and 291 more.
 const OUTPUT: usize = 9 * LIMIT + 291;
@@ -44,8 +44,10 @@ fn counted(close: Option<Close>, line: u64, wait: u32) -> Option<Close>
     requires { (0 < line) × IfSome close (λ c. c.pulses < line) }
     ensures { IfSome result (λ c. c.pulses < line + 1) }
 {
+    if line == 1 || 1 < wait {
+        return close;
+    }
     match close {
-        _ if line == 1 || 1 < wait => close,
         None => Some(Close {
             pulses: 1,
             line,
@@ -63,7 +65,7 @@ fn look(text: &[u8]) -> Seen {
     let mut number = 1;
     let mut from = 0;
     let mut close = None;
-    // No index is counted: where the next line begins is known once this one is read.
+    // No index is counted, but the line's number: where the next line begins is known once this one is read.
     while let Ok(line) = read_line(&text[from..]) {
         close = counted(close, number, line.sent.wait);
         number += 1;
@@ -78,7 +80,7 @@ fn look(text: &[u8]) -> Seen {
 
 // The pulses that run into the one before them: the first one's line and wait, and how many there are.
 fn tell_close<W: Write>(errors: &mut W, close: Close) -> Result<(), Unheard> {
-    tell(
+    tell_words(
         errors,
         NAME,
         format_args!(
@@ -118,10 +120,10 @@ fn run(rt: HostRuntime) -> Result<(), Unheard> {
     let mut errors = rt.stderr();
     let mut input = [0u8; INPUT];
     let Ok(length) = read_input(&mut rt.stdin(), &mut input) else {
-        return tell_unread(&mut errors, NAME, "Nothing was written.");
+        return tell_unread(&mut errors, NAME, b"Nothing was written.");
     };
     if LIMIT < length {
-        return tell_too_long(&mut errors, NAME, "Nothing was written.");
+        return tell_too_long(&mut errors, NAME, b"Nothing was written.");
     }
     show(rt, &input[..length])
 }

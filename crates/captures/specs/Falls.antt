@@ -113,4 +113,5 @@ ends scan w = changes_come scan.phase && (is_stamp w && ends_stamp scan (stamp_o
 -- The falls of E from here on; the text's end is the end of its last stamp.
 unfoldable pub falls_from : List Word → List Word → Scan → List Word → List Fall
 falls_from all codes scan [] = fall_at (falls scan) scan
-falls_from all codes scan (w ∷ ws) = fall_at (ends scan w && falls scan) scan ++ falls_from all codes (scanned all codes scan w) ws
+falls_from all codes scan (w ∷ ws) =
+    fall_at (ends scan w && falls scan) scan ++ falls_from all codes (scanned all codes scan w) ws

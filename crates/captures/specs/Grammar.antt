@@ -25,7 +25,8 @@ NotEnd w = is "$end" w ≡ false
 pub data Sections : Bool → List Word → Type 0 where
   scale : (ws : List Word) → Sections true ws
       → Sections false (bytes_of "$timescale" ∷ bytes_of "1" ∷ bytes_of "us" ∷ bytes_of "$end" ∷ ws)
-  scale_joined : (ws : List Word) → Sections true ws → Sections false (bytes_of "$timescale" ∷ bytes_of "1us" ∷ bytes_of "$end" ∷ ws)
+  scale_joined : (ws : List Word) → Sections true ws
+      → Sections false (bytes_of "$timescale" ∷ bytes_of "1us" ∷ bytes_of "$end" ∷ ws)
   scope : (scaled : Bool) (kind name : Word) (ws : List Word) → is_scope_kind kind ≡ true → NotEnd name → Sections scaled ws
       → Sections scaled (bytes_of "$scope" ∷ kind ∷ name ∷ bytes_of "$end" ∷ ws)
   upscope : (scaled : Bool) (ws : List Word) → Sections scaled ws → Sections scaled (bytes_of "$upscope" ∷ bytes_of "$end" ∷ ws)

@@ -1,6 +1,7 @@
 -- What is proved of captures: each theorem is a type here, and its proof stands in proofs/Theorems (request b).
 -- Assumes nothing.
-use Rattle.std.specs.Prelude.{◌≡◌, ℕ, ◌+◌, ◌*◌, ◌<◌, ◌≤◌, true, false, ◌⊎◌, List, [], ◌∷◌, ◌++◌, length, replicate, Result}
+use Rattle.std.specs.Prelude.{is_some, ◌≡◌, ℕ, ◌+◌, ◌*◌, ◌<◌, ◌≤◌, true, false, ◌⊎◌, List, [], ◌∷◌, ◌++◌, length, replicate}
+use Rattle.std.specs.Prelude.{Result}
 use Rattle.controller.specs.Answers.{number_of, Row, Tells}
 use Rattle.controller.specs.declared.answers.Answer.{Answer}
 use Rattle.lines.specs.Session.{session_of}
@@ -11,7 +12,7 @@ use Rattle.captures.specs.Falls.{Fall, level_at}
 use Rattle.captures.specs.Form.{is_whole}
 use Rattle.captures.specs.Import.{falls_of, in_subset, scan_of, session_text, importing}
 use Rattle.captures.specs.Import as Import
-use Rattle.captures.specs.Faults.{is_unfinished, unknown_in, wrong_in}
+use Rattle.captures.specs.Faults.{is_unfinished, unknown_in, unknown_told, wrong_in}
 use Rattle.captures.specs.Grammar.{InSubset, Missing}
 use Rattle.captures.specs.Made.{capture_text, capturing}
 
@@ -88,6 +89,7 @@ pub record FaultsFound : Type 0 where
   pub unfinished : (capture : List ℕ) → is_unfinished (wrong_in capture).fault ≡ true
       → in_subset capture ≡ is_whole (scan_of capture).phase
   pub unknown : (capture : List ℕ) → (unknown_in capture).found ≡ Import.unknown_in (falls_of capture)
+  pub told : (capture : List ℕ) → is_some (unknown_told (unknown_in capture)) ≡ Import.unknown_in (falls_of capture)
 
 -- A transfer takes 12 bytes of a capture at least, two stamps and two changes of E, and its line has 16 at most: so the session's
 -- text has at most 4 bytes for each 3 of the capture, and 6 more.

@@ -23,7 +23,7 @@ pub struct Capture<'a, 't> {
     ghost known: { Tabled table.now (words text.now) (codes_in codes) 11 },
 }
 
-// Every line that has this code gets the level.
+// Every line that has this code gets the level. By its number, since a proof knows nothing of what `iter_mut().zip` wrote where.
 fn set_levels(codes: &Codes, change: Change, levels: &mut [Level; 11])
     ensures { numbers_of levels.new
         ≡ changed 11 (codes_in codes.now) change.entry.code.now (number_of_level change.entry.level) (numbers_of levels.old) }

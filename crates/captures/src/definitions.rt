@@ -7,7 +7,7 @@ ghost use Rattle.captures.specs.Walk.{head_in};
 use crate::form::{Phase, pass};
 use crate::words::place_in;
 
-// The codes of the eleven lines, as they stand in the text; empty where a signal is not declared yet.
+// The codes of the eleven lines, as they stand in the text; empty where a signal is not declared yet, since no code is empty.
 pub type Codes<'a> = [&'a [u8]; 11];
 
 // What has been read of the definitions: the phase, the code of the section at hand, the codes of the needed signals, and whether

@@ -42,7 +42,8 @@ fn bit(level: Level) -> u8
     (level == Level::High) as u8
 }
 
-// Four lines as a number, the first worth 1.
+// Four lines as a number, the first worth 1. Lines go by their number in the table of the request: 0 RS, 1 RW, 2 E, 3 to 10 DB0
+// to DB7.
 #[tactic(auto, unfolding(crate::specs::Import::four))]
 fn four(first: Level, second: Level, third: Level, fourth: Level) -> u8
     ensures { (result
@@ -100,7 +101,7 @@ pub fn unknown_at(levels: &[Level; 11]) -> bool
     }
 }
 
-// A length more; past 2^63, which no buffer has, it stays.
+// A length more; past 2^63, which no buffer has, it stays (`longer`, where `saturating_add` would go on to 2^64).
 #[tactic(auto, unfolding(crate::specs::Walk::longer))]
 pub fn add_up(length: usize, more: usize) -> usize
     requires { more < 9223372036854775808 }

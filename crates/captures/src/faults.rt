@@ -71,6 +71,7 @@ fn find_wrong(capture: &Capture) -> Wrong
     ensures { result ≡ wrong_in capture.now.text.now }
 {
     let mut head = Head::new();
+    // The iterator tells words alone, and two of its callers want their places.
     let mut place = 0;
     for word in words_of(capture.text) {
         let undeclared = is_undeclared(capture, head.phase, word);

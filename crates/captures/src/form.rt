@@ -49,7 +49,8 @@ impl Phase {
     }
 }
 
-// The level of a line: at 0, at 1, or at x or z, which tell nothing.
+// The level of a line: at 0, at 1, or at x or z, which tell nothing. The definitions and their theorems are over 0, 1 and 2, so
+// that the clauses say `number_of_level`.
 #[derive(Clone, Copy, PartialEq, Eq)]
 pub enum Level {
     Low,

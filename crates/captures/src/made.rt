@@ -52,7 +52,7 @@ fn put_change(value: u8, code: u8, out: &mut [u8], at: usize) -> usize
     put_byte(out, end, b'\n')
 }
 
-// Puts the lines that say the kind and the byte.
+// Puts the lines that say the kind and the byte, one by one as `made_lines` has them.
 fn put_lines(sent: Sent, out: &mut [u8], at: usize) -> usize
     ensures { put result out.new ≡ putting (put at out.old) (made_lines sent) }
 {

@@ -44,7 +44,8 @@ fn walk(capture: &Capture, out: &mut [u8]) -> Ended
     Ended { scan, tally }
 }
 
-// Reads the definitions of a capture, up to their end, and notes the codes that they declare.
+// Reads the definitions of a capture, up to their end, and notes the codes that they declare. What the table says of the text
+// stands in the clauses here: `Capture` keeps it once both are whole.
 fn read_sections<'a>(text: &'a [u8], table: &mut Table) -> Head<'a>
     requires { Tabled table.old (words text.now) [] 0 }
     ensures { HeadRead text.now result × Tabled table.new (words text.now) [] 0 }

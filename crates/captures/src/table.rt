@@ -11,7 +11,8 @@ use crate::form::Phase;
 // How many codes have one or two characters, each 21h to 7Eh.
 const SHORT_CODES: usize = 94 + 94 * 94;
 
-// A byte for each short code: the one line that it serves, or one of the three below. An Entry takes several bytes.
+// A byte for each short code: the one line that it serves, or one of the three below. The definitions of the table are over these
+// numbers (`Tabled`), and an Entry would take two bytes and more.
 pub type Table = [u8; SHORT_CODES];
 
 // The code is declared and serves no line.
@@ -33,7 +34,6 @@ pub enum Entry {
 }
 
 // A table that knows no code.
-
 pub fn blank_table() -> Table
     ensures { (all codes : List Word) → Tabled result all codes 0 }
 {

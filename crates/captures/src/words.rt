@@ -28,7 +28,7 @@ pub fn behind(bytes: &[u8], start: usize) -> &[u8]
     bytes.get(start..).unwrap_or(&[])
 }
 
-// The words of a text that are still to come.
+// The words of a text that are still to come. `split` would give an empty word behind a last blank, which `Words.words` has not.
 #[derive(Clone, Drop)]
 pub struct Words<'a> {
     rest: &'a [u8],

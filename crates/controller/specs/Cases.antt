@@ -50,7 +50,8 @@ P1 =
 -- A transfer as a controller of this width takes it: whole at width 8, at width 4 in two halves, the second after the later wait.
 abbrev pub taking : Bool → Record → List ℕ → ℕ → ℕ → ℕ → ℕ → Decision
 taking true rec mem kind byte wait later = decided rec mem kind byte wait
-taking false rec mem kind byte wait later = decided (decided rec mem kind (high_half byte) wait).rec mem kind (low_half byte) later
+taking false rec mem kind byte wait later =
+    decided (decided rec mem kind (high_half byte) wait).rec mem kind (low_half byte) later
 
 -- At either width a data write with I/D=1 leads from this counter, at this address, to that one.
 abbrev pub WriteLeads : Bool → Counter → ℕ → Counter → ℕ → Type 0

@@ -82,7 +82,8 @@ pub record EndsStatus (rec : Record) (mem : List ℕ) (taken wait : ℕ) (d : De
 -- read has not.
 pub record HalfRules : Type 0 where
   pub first : (rec : Record) (mem : List ℕ) (kind byte wait : ℕ) → Narrow rec mem → rec.half ≡ Empty
-      → (NoTransfer kind byte → ⊥) → (TooEarly kind wait rec → ⊥) → TakesFirst rec mem kind byte wait (decided rec mem kind byte wait)
+      → (NoTransfer kind byte → ⊥) → (TooEarly kind wait rec → ⊥)
+      → TakesFirst rec mem kind byte wait (decided rec mem kind byte wait)
   pub second : (rec : Record) (mem : List ℕ) (kind first byte wait : ℕ) → Narrow rec mem → IsOf first rec.half
       → (NoTransfer kind byte → ⊥) → (decided rec mem kind byte wait).byte ≡ low_half (taken_byte rec.half)
   pub crossed : (rec : Record) (mem : List ℕ) (kind first byte wait : ℕ) → Narrow rec mem → IsOf first rec.half

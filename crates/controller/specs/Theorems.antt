@@ -72,7 +72,8 @@ LoanRefusals =
 -- A refused reset returns the record it was given and leaves the memory as found.
 abbrev pub ResetRefusals : Type 0
 ResetRefusals =
-    (rec : Record) (mem : List ℕ) → is_refusal (reset_decided rec mem).answer ≡ true → reset_decided rec mem ≡ refused NotWhole rec
+    (rec : Record) (mem : List ℕ) → is_refusal (reset_decided rec mem).answer ≡ true
+    → reset_decided rec mem ≡ refused NotWhole rec
 
 -- Transfer gives each number exactly where its row applies and none before it in the order.
 abbrev pub TransferAnswers : Type 0

@@ -26,7 +26,7 @@ pub enum Answer {
     LevelUnknown = 28,
 }
 
-// The number of an answer in the table.
+// The number of an answer in the table. This and the two tests below stay functions: their promises name them (`NumberPromise`).
 pub fn number(answer: Answer) -> u8
     ensures { NumberPromise answer result }
 {

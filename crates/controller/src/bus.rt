@@ -51,7 +51,8 @@ fn decide_later(memory: &Memory, kind: Kind, byte: u8, rec: Record, later: Recor
     }
 }
 
-// What a transfer comes to. Refusals 1, 2 and 3 come before the wait and leave the record as found.
+// What a transfer comes to. Refusals 1, 2 and 3 come before the wait and leave the record as found. Kind, byte and wait come
+// apart, as the public call takes them; memory and record stay apart, since each step makes a new record and none a new memory.
 #[tactic(auto, unfolding(crate::specs::Bus::decided, crate::specs::Bus::whole))]
 fn decide(rec: Record, memory: &[u8], kind: u8, byte: u8, wait: u32) -> Decision
     ensures { result ≡ decided rec memory.now kind byte wait }

@@ -13,7 +13,8 @@ pub enum Effect {
     Blank,
 }
 
-// What is to be told, the record to be left, and the effect to be performed.
+// What is to be told, the record to be left, and the effect to be performed. An Outcome has the first three of them again, as the
+// definitions do (`outcome_of`).
 #[derive(Clone, Copy)]
 pub struct Decision {
     pub answer: Answer,

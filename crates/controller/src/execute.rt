@@ -13,7 +13,7 @@ use crate::instruction::{Instruction, decode};
 use crate::oscillator::{Frequency, time_at};
 use crate::record::{Entry, Record};
 
-// A complete transfer, with the byte that it writes or returns.
+// A complete transfer, with the byte that it writes or returns: a `Kind` with its byte, as the definitions have it (`completed`).
 #[derive(Clone, Copy)]
 pub enum Transfer {
     Instruct(u8),
@@ -47,7 +47,8 @@ impl Record {
         Record { counter, ..self }
     }
 
-    // The counter one cell on, as I/D says.
+    // The counter one cell on, as I/D says. That the counter is on a cell and the shift below 80 stands in the clauses: both
+    // types are public and may be unsound, which is answered 1, and each step makes a record by update.
     fn moved_on(self) -> Record
         requires { on_cell self.counter ≡ true }
         ensures { result ≡ moved_on self }

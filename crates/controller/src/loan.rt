@@ -5,7 +5,7 @@ use crate::answers::Answer;
 use crate::bus::transfer;
 use crate::record::Record;
 
-// What the caller of the loan is told.
+// What the caller of the loan is told: an Outcome without the record, which stays in the loan.
 #[derive(Clone, Copy, PartialEq, Eq)]
 pub struct Told {
     pub answer: Answer,

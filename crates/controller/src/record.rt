@@ -28,7 +28,8 @@ pub struct Entry {
     pub s: bool,
 }
 
-// The half transfer that waits at width 4: none, a write with its high four bits, or a read with its whole byte.
+// The half transfer that waits at width 4: none, a write with its high four bits, or a read with its whole byte. Document 01
+// names this form, so it is no Option of a kind and a byte.
 #[derive(Clone, Copy, PartialEq, Eq)]
 pub enum Half {
     Empty,

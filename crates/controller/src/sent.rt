@@ -10,7 +10,7 @@ pub struct Sent {
     pub wait: u32,
 }
 
-// A number as four bytes, the lowest first.
+// A number as four bytes, the lowest first. These three stay functions, since their promises name them (`LittleEndianPromise`).
 pub fn little_endian(number: u32) -> [u8; 4]
     ensures { LittleEndianPromise number result }
 {

@@ -1,7 +1,7 @@
 // Sends plans to the controller, cut and whole.
 use crate::cells::{cells_by, first_byte, wished_byte};
 use crate::wishes::Named;
-use controller::{Answer, Record, transfer};
+use controller::{Answer, Record, transfer_in};
 use planner::{Wish, plan};
 use std::fmt;
 
@@ -68,10 +68,9 @@ impl Bench {
     // One record of the plan, sent exactly as planned: kind, byte, and the wait with its lowest byte first.
     fn send(&mut self, [kind, byte, a, b, c, d]: [u8; 6]) {
         let wait = u32::from_le_bytes([a, b, c, d]);
-        let outcome = transfer(self.rec, &mut self.memory, kind, byte, wait);
-        self.rec = outcome.rec;
+        let told = transfer_in(&mut self.rec, &mut self.memory, kind, byte, wait);
         self.sent = self.sent.wrapping_add(1);
-        self.refused = self.refused || outcome.answer == Answer::Busy;
+        self.refused = self.refused || told.answer == Answer::Busy;
     }
 
     // The first records of the plan, as many as this.

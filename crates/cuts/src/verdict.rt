@@ -74,7 +74,7 @@ fn judge_register(rec: Record, cursor: u8, memory: &[u8; 144]) -> Result<(), Fau
     hold(shown == Some(rec.reg), Fault::Register)
 }
 
-// The counter whose cell is at this place.
+// The counter whose cell is at this place. The planner has its own: this one judges it.
 fn counter_at(place: u8) -> Counter {
     if place < 80 {
         Counter::Display(place)

@@ -31,7 +31,7 @@ impl Named {
     }
 }
 
-// A wish on a module of whatever frequency: how the panel is to stand, and which cells are named.
+// A wish on a module of whatever frequency, which is given later: how the panel is to stand, and which cells are named.
 #[derive(Clone, Copy)]
 pub struct Case {
     function: Function,

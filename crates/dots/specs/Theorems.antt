@@ -84,7 +84,8 @@ pub record LowFive (byte low : ℕ) : Type 0 where
 -- 0Fh show the same patterns again.
 pub record PatternShows : Type 0 where
   pub bits :
-      (shapes mem : List ℕ) (code row : ℕ) → code < 8 → LowFive (get_or mem (80 + (8 * code + row)) 0) (row_of shapes mem code row)
+      (shapes mem : List ℕ) (code row : ℕ) → code < 8
+      → LowFive (get_or mem (80 + (8 * code + row)) 0) (row_of shapes mem code row)
   pub again : (shapes mem : List ℕ) (code row : ℕ) → code < 8 → row_of shapes mem (code + 8) row ≡ row_of shapes mem code row
 
 -- Other codes come from the table, whatever the memory is, eight rows to a code. It has 256 x 8 = 2,048 rows.
@@ -111,7 +112,8 @@ pub record TableShapes : Type 0 where
 -- Every row in the table is below 32 and every eighth row is 0.
 abbrev pub TableRows : Type 0
 TableRows =
-    (place : ℕ) → place < table_length → (get_or font place 0 < 32) × (place % shape_rows + 1 ≡ shape_rows → get_or font place 0 ≡ 0)
+    (place : ℕ) → place < table_length
+    → (get_or font place 0 < 32) × (place % shape_rows + 1 ≡ shape_rows → get_or font place 0 ≡ 0)
 
 -- F does not alter the picture, nor the answer.
 abbrev pub FAltersNothing : Type 0

@@ -11,7 +11,8 @@ pub struct Size {
     pub lines: u8,
 }
 
-// A panel: the plain geometry of some size, the panel of 20 x 4, the divided row of 16 x 1, or one that is not known.
+// A panel: the plain geometry of some size, the panel of 20 x 4, the divided row of 16 x 1, or one that is not known, which
+// `picture` answers 10, behind 1 and 2.
 #[derive(Clone, Copy)]
 pub enum Profile {
     Plain(Size),

@@ -23,7 +23,8 @@ pub struct Scene<'a> {
     pub ghost whole: { length memory.now ≡ 144 },
 }
 
-// Whether the counter is on this display cell.
+// Whether the counter is on this display cell. Which rows and panels fit the caller has from his range, so that these facts stand
+// in the clauses.
 fn is_on(counter: Counter, cell: usize) -> bool
     ensures { result ≡ is_on counter cell }
 {

@@ -25,7 +25,7 @@ const QUADRANTS: [u16; 16] = [
     '█' as u16,
 ];
 
-// One of the three bytes of a character.
+// One of the three bytes of a character. By hand, since one byte of a place is asked for, and not the whole character.
 #[tactic(auto, unfolding(crate::specs::Blocks::byte_of_char))]
 fn byte_of_char(char: u16, at: usize) -> u8
     ensures { result ≡ byte_of_char char at }

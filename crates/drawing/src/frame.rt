@@ -10,6 +10,7 @@ fn is_end(last: usize, at: usize) -> bool
     at == 0 || at == last
 }
 
+// This and the next are one character or another, as in `state`: a function of the two would say no more.
 fn border_for(corner: bool) -> u8
     ensures { result ≡ border corner }
 {

@@ -15,8 +15,8 @@ pub struct Glass<'a> {
     pub ghost small: { Small grid },
 }
 
-// The bounds of columns and rows stay in the clauses, since each text has its own (255, 127 for block characters, 94 for the
-// listing): a type for a place of each would be no plainer.
+// The bounds of columns and rows stay in the clauses: places come by division from a usize, and as u8 they would be converted for
+// each product.
 impl Glass<'_> {
     // The last column of the grid.
     #[tactic(auto, unfolding(crate::specs::Grid::last_x))]

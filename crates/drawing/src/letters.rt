@@ -31,7 +31,7 @@ fn letter_shown(memory: &[u8], shown: Option<usize>) -> u8
     }
 }
 
-// Whether the counter is on the cell that is shown.
+// Whether the counter is on the cell that is shown: one look at two values, so that dots keeps its own test to itself.
 fn counter_shown(counter: Counter, shown: Option<usize>) -> bool
     ensures { result ≡ counter_shown counter shown }
 {

@@ -21,7 +21,8 @@ fn shown() -> Record {
     rec
 }
 
-// A memory whose first sixteen display cells hold sixteen codes from this one on.
+// A memory whose first sixteen display cells hold sixteen codes from this one on: `first` and sixteen more fit a byte, in three
+// clauses.
 fn codes_from(first: u8) -> [u8; 144]
     requires { first < 240 }
 {

@@ -14,17 +14,17 @@ use refusals::refusals_of;
 use std::io::IsTerminal;
 use std::process::ExitCode;
 use telling::{
-    INPUT, LIMIT, Unheard, Unsent, heard, read_input, send, send_or_tell, status_of, tell,
-    tell_bad_line, tell_too_long, tell_unread, whole_or_told,
+    INPUT, LIMIT, Unheard, Unsent, heard, read_input, send, send_or_tell, status_of, tell_bad_line,
+    tell_too_long, tell_unread, tell_words, whole_or_told,
 };
 
 // The program's name, before what it tells.
-const NAME: &str = "glass";
+const NAME: &[u8] = b"glass";
 
 // More than any drawing takes.
 const OUTPUT: usize = 65_536;
 
-// Where something is written.
+// Where something is written: two handles of two types, each made where it is wanted.
 #[derive(Clone, Copy)]
 enum Place {
     Output,
@@ -37,7 +37,7 @@ fn tell_usage(rt: HostRuntime) -> Result<(), Unheard> {
         "--until TRANSFERS (0 to 99999), --khz N (190 to 350; without it 250)",
         "and one of --dots, --blocks, --text, --cells and --pbm",
     ] {
-        tell(&mut rt.stderr(), NAME, words)?;
+        tell_words(&mut rt.stderr(), NAME, words)?;
     }
     Ok(())
 }
@@ -130,12 +130,12 @@ fn run(rt: HostRuntime) -> Result<(), Unheard> {
     };
     let mut input = [0u8; INPUT];
     let Ok(length) = read_input(&mut rt.stdin(), &mut input) else {
-        return tell_unread(&mut errors, NAME, "Nothing was played.");
+        return tell_unread(&mut errors, NAME, b"Nothing was played.");
     };
     if LIMIT < length {
         let sent = write_at(rt, place_for_words(options.form), b"too long\n");
         whole_or_told(sent, &mut errors, NAME)?;
-        return tell_too_long(&mut errors, NAME, "Nothing was played.");
+        return tell_too_long(&mut errors, NAME, b"Nothing was played.");
     }
     play_and_show(rt, options, &input[..length])
 }

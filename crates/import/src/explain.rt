@@ -12,7 +12,8 @@ type Words = Page<1024>;
 // As many bytes of a word are shown.
 const SHOWN: usize = 40;
 
-// The needed signals, by their lines. The last eight are needed for writes only.
+// The needed signals, by their lines, as they are told: captures knows them as one text. The last eight are needed for writes
+// only.
 const NAMES: [&str; 11] = [
     "RS", "RW", "E", "DB0", "DB1", "DB2", "DB3", "DB4", "DB5", "DB6", "DB7",
 ];

@@ -11,7 +11,7 @@ use std::process::ExitCode;
 use telling::{Unheard, Unsent, read_input, send_or_tell, status_of, tell, tell_unread};
 
 // The program's name, before what it tells.
-const NAME: &str = "import";
+const NAME: &[u8] = b"import";
 
 // The longest capture, and one byte more, by which a longer one shows.
 const LIMIT: usize = 2_097_152;
@@ -38,13 +38,13 @@ fn run(rt: HostRuntime) -> Result<(), Unheard> {
     let mut errors = rt.stderr();
     let mut input = [0u8; INPUT];
     let Ok(length) = read_input(&mut rt.stdin(), &mut input) else {
-        return tell_unread(&mut errors, NAME, "Nothing was imported.");
+        return tell_unread(&mut errors, NAME, b"Nothing was imported.");
     };
     if LIMIT < length {
         return tell(
             &mut errors,
             NAME,
-            "the capture is longer than 2,097,152 bytes, the most that is taken. Nothing was imported.",
+            b"the capture is longer than 2,097,152 bytes, the most that is taken. Nothing was imported.",
         );
     }
     write_session(rt, first(&input, length))

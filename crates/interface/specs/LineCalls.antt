@@ -40,4 +40,5 @@ read_call text out = stored (line_of text) out
 -- What storing a line comes to: 11, or its length and its six bytes.
 unfoldable pub stored_line : Line → List ℕ → Filling
 stored_line line out =
-    cond (ltb (length out) 6) (declined OutputShort out) (record { returned = 256 * line.length; buffer = onto (six_bytes line.sent) out })
+    cond (ltb (length out) 6) (declined OutputShort out)
+    (record { returned = 256 * line.length; buffer = onto (six_bytes line.sent) out })

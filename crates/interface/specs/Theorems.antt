@@ -55,7 +55,8 @@ pub record FrequencySaid : Type 0 where
 -- for any other.
 pub record ResetSays (bytes mem : List ℕ) : Type 0 where
   pub kept : 190 ≤ says_khz bytes 20 21 → says_khz bytes 20 21 ≤ 350
-      → (get_or (reset_call bytes mem).rec 20 0 ≡ get_or bytes 20 0) × (get_or (reset_call bytes mem).rec 21 0 ≡ get_or bytes 21 0)
+      → (get_or (reset_call bytes mem).rec 20 0 ≡ get_or bytes 20 0)
+      × (get_or (reset_call bytes mem).rec 21 0 ≡ get_or bytes 21 0)
   pub put : (says_khz bytes 20 21 < 190) ⊎ (350 < says_khz bytes 20 21)
       → (get_or (reset_call bytes mem).rec 20 0 ≡ 0xFA) × (get_or (reset_call bytes mem).rec 21 0 ≡ 0x00)
 

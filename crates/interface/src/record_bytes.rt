@@ -1,4 +1,4 @@
-// A controller's record as 24 bytes.
+// A controller's record as 24 bytes: the numbers of the header, each converted once, by a match.
 ghost use Rattle.std.specs.Prelude.{◌≡◌, ◌∷◌, [], cond, length, Some, None};
 ghost use Rattle.interface.specs.RecordBytes.{counter_from, frequency_from, half_byte, half_from, high_byte, is_record_long};
 ghost use Rattle.interface.specs.RecordBytes.{low_byte};

@@ -37,7 +37,7 @@ pub fn placed(answer: Answer, offset: usize) -> u32
     refused(answer) + 65_536 * offset as u32
 }
 
-// As `counted`, in 64 bits, where a length below 2^56 has room.
+// As `counted`, in 64 bits, where a length below 2^56 has room: C has one width for each.
 pub fn counted_far(told: Result<usize, Answer>) -> u64
     ensures { result ≡ number_of (answer_in told) + 256 * (length_in told % 72057594037927936) }
 {

@@ -41,7 +41,8 @@ three_say hundreds tens ones =
 -- The number that three decimal digits say; any other word says 0.
 unfoldable pub three_digits : List ℕ → ℕ
 three_digits word =
-    cond (eqb (length word) 3) (three_say (worth_of (get_or word 0 0)) (worth_of (get_or word 1 0)) (worth_of (get_or word 2 0))) 0
+    cond (eqb (length word) 3)
+    (three_say (worth_of (get_or word 0 0)) (worth_of (get_or word 1 0)) (worth_of (get_or word 2 0))) 0
 
 -- Three decimal digits.
 unfoldable pub are_three : List ℕ → Bool

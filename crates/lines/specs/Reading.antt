@@ -63,7 +63,8 @@ unfoldable pub byte_read : ℕ → List ℕ → Result ℕ BadLine
 byte_read kind text =
     cond (not (digit_stands kind (worth_of (text_at text 2)))) (Err (fault BadByte 2))
     (cond (not (digit_stands kind (worth_of (text_at text 3)))) (Err (fault BadByte 3))
-    (cond (not (eqb (text_at text 4) tab)) (Err (fault BadByte 4)) (Ok (worth_of (text_at text 2) * 16 + worth_of (text_at text 3)))))
+    (cond (not (eqb (text_at text 4) tab)) (Err (fault BadByte 4))
+    (Ok (worth_of (text_at text 2) * 16 + worth_of (text_at text 3)))))
 
 -- A digit may follow digits of this value: not after a leading zero, and not past the limit.
 unfoldable pub may_follow : ℕ → ℕ → Bool
@@ -80,7 +81,8 @@ rest_of place value (byte ∷ rest) =
 
 -- The wait, with the line's length: a first digit, without which it is 18, and its rest.
 unfoldable pub wait_of : List ℕ → WaitRead
-wait_of text = cond (ltb 9 (worth_of (text_at text 5))) (Err (fault BadWait 5)) (rest_of 6 (worth_of (text_at text 5)) (drop 6 text))
+wait_of text =
+    cond (ltb 9 (worth_of (text_at text 5))) (Err (fault BadWait 5)) (rest_of 6 (worth_of (text_at text 5)) (drop 6 text))
 
 -- A line that is refused: the answer, the place of the fault, and zeros for the rest.
 abbrev pub refused_line : Answer → ℕ → Reading

@@ -1,7 +1,7 @@
 -- What is proved of lines and of the calls that read and write them: each theorem is a type here, and its proof stands in
 -- proofs/Theorems (document 01, "Session lines", "What each number says").
 -- Assumes nothing.
-use Rattle.std.specs.Prelude.{false, List, [], ◌∷◌, ◌++◌, ◌≡◌, ℕ, ◌<◌, ◌≤◌, length, take, Result, IsOk}
+use Rattle.std.specs.Prelude.{true, false, List, [], ◌∷◌, ◌++◌, ◌≡◌, ℕ, ◌<◌, ◌≤◌, length, take, Result, IsOk}
 use Rattle.controller.specs.declared.answers.Answer.{Answer}
 use Rattle.controller.specs.declared.answers.Answer.TheVariants.{Done}
 use Rattle.controller.specs.declared.sent.Sent.{Sent}
@@ -10,7 +10,7 @@ use Rattle.controller.specs.Answers.{number_of, Row, Tells}
 use Rattle.controller.specs.Rows.{NoTransfer}
 use Rattle.lines.specs.declared.reader.BadLine.{BadLine}
 use Rattle.lines.specs.declared.reader.Line.{Line}
-use Rattle.lines.specs.Digits.{decimal, three_digits}
+use Rattle.lines.specs.Digits.{are_three, decimal, three_digits}
 use Rattle.lines.specs.Line.{line, lines_of, wait_limit}
 use Rattle.lines.specs.Reading.{Reading, line_of, told_of}
 use Rattle.lines.specs.Session.{session_of}
@@ -48,7 +48,8 @@ line_read kind byte wait =
 -- What was written reads back as the same transfer, with any text after it.
 abbrev pub WrittenReadsBack : Type 0
 WrittenReadsBack =
-    (kind byte wait : ℕ) (more : List ℕ) → Sayable kind byte wait → line_of (line kind byte wait ++ more) ≡ line_read kind byte wait
+    (kind byte wait : ℕ) (more : List ℕ) → Sayable kind byte wait
+    → line_of (line kind byte wait ++ more) ≡ line_read kind byte wait
 
 -- So a buffer into which a line was written reads back as the same transfer, whatever stands after the line.
 abbrev pub BufferReadsBack : Type 0
@@ -100,7 +101,8 @@ LinesFit = (kind byte wait : ℕ) → wait ≤ wait_limit → length (line kind 
 
 -- No second answer fits: two outcomes that both meet the promise of a writing call are one, and so are the buffers.
 abbrev pub OneWriting : Type 0
-OneWriting = (w : Writing) (out : List ℕ) (a b : Result ℕ Answer) (x y : List ℕ) → Writes w out a x → Writes w out b y → (a ≡ b) × (x ≡ y)
+OneWriting =
+    (w : Writing) (out : List ℕ) (a b : Result ℕ Answer) (x y : List ℕ) → Writes w out a x → Writes w out b y → (a ≡ b) × (x ≡ y)
 
 -- And two lines that both are what the reader promises are one.
 abbrev pub OneRead : Type 0
@@ -116,8 +118,10 @@ SessionReadsBack =
 abbrev pub NoSession : List ℕ → Type 0
 NoSession text = (ts : List Sent) → AllSayable ts → text ≡ lines_of ts → ⊥
 
--- Words of three digits are the numbers 100 to 999 in decimal: each such number is read back, and no other word says it.
+-- Words of three digits are the numbers 100 to 999 in decimal: each such number is read back and said to be three
+-- digits, and no other word says it.
 abbrev pub ThreeDigitsRead : Type 0
 ThreeDigitsRead =
-    ((number : ℕ) → 100 ≤ number → number < 1000 → three_digits (decimal number) ≡ number)
+    ((number : ℕ) → 100 ≤ number → number < 1000
+    → (three_digits (decimal number) ≡ number) × (are_three (decimal number) ≡ true))
     × ((word : List ℕ) → 100 ≤ three_digits word → decimal (three_digits word) ≡ word)

@@ -1,4 +1,5 @@
-// Digits and letters, each way.
+// Digits and letters, each way. They stay functions of our own: a promise says of each which byte it gives, and std promises no
+// text.
 ghost use Rattle.std.specs.Prelude.{◌≡◌};
 ghost use Rattle.lines.specs.Digits.{decimal_in};
 ghost use Rattle.lines.specs.Line.{kind_in, letter_of};

@@ -1,4 +1,5 @@
-// The fields of lines and rows, each put into a buffer at a place; each function returns the place after its field.
+// The fields of lines and rows, each put into a buffer at a place; each function returns the place after its field,
+// and asks for its own room.
 ghost use Rattle.std.specs.Prelude.{◌≡◌, ◌+◌, ◌≤◌, length};
 ghost use Rattle.std.proofs.lemmas.List.Edits.{sets};
 ghost use Rattle.lines.specs.Digits.{byte_field, decimal, number_field};

@@ -31,7 +31,7 @@ fn fault(answer: Answer, offset: usize) -> BadLine
     BadLine { answer, offset }
 }
 
-// The byte at a place, and 00h past the end.
+// The byte at a place, and 00h past the end: drawing has the like, and a public function for both would want a promise.
 #[tactic(auto, unfolding(crate::specs::Reading::text_at))]
 fn text_at(text: &[u8], place: usize) -> u8
     ensures { result ≡ text_at text.now place }
@@ -39,7 +39,7 @@ fn text_at(text: &[u8], place: usize) -> u8
     text.get(place).copied().unwrap_or(0)
 }
 
-// The kind: its letter, and its tab. It is the number that `Sent` carries.
+// The kind: its letter, and its tab. It is a number, as `Reading.kind_read` gives it and `Sent` carries it.
 #[tactic(auto, unfolding(crate::specs::Reading::kind_read))]
 fn read_kind(text: &[u8]) -> Result<u8, BadLine>
     ensures kind { result ≡ kind_read text.now }
@@ -96,6 +96,7 @@ fn read_rest(text: &[u8], first: u8) -> Result<(u32, usize), BadLine>
     ensures fault { IfErr result (λ bad. is_done bad.answer ≡ false) }
 {
     let mut value = first as u64;
+    // Over places and not bytes, since the place is the fault's offset.
     for place in 6..text.len() {
         let byte = text[place];
         if byte == b'\n' {

@@ -17,7 +17,7 @@ pub fn put_byte(out: &mut [u8], at: usize, byte: u8) -> usize
     at + 1
 }
 
-// A text, byte by byte.
+// A text, byte by byte, as `putting` has it: what does not fit is left out.
 pub fn put_text(out: &mut [u8], at: usize, text: &[u8]) -> usize
     ensures { PutTextPromise out.old at text.now result out.new }
 {
@@ -28,7 +28,7 @@ pub fn put_text(out: &mut [u8], at: usize, text: &[u8]) -> usize
     next
 }
 
-// A number in decimal, without leading zeros.
+// A number in decimal, without leading zeros: by `write!` it would be written on a Page alone, and a lent slice has none.
 pub fn put_number(out: &mut [u8], at: usize, number: u64) -> usize
     ensures { PutNumberPromise out.old at number result out.new }
 {
@@ -37,7 +37,7 @@ pub fn put_number(out: &mut [u8], at: usize, number: u64) -> usize
     put_text(out, at, first(&digits, length))
 }
 
-// A byte as two hex digits.
+// A byte as two hex digits. No other crate calls it any more; its promise keeps it (`PutHexPromise`).
 pub fn put_hex(out: &mut [u8], at: usize, byte: u8) -> usize
     ensures { PutHexPromise out.old at byte result out.new }
 {
@@ -45,7 +45,8 @@ pub fn put_hex(out: &mut [u8], at: usize, byte: u8) -> usize
     put_byte(out, low, hex_digit(byte % 16))
 }
 
-// The first bytes of a buffer, as many as this, or all where it has fewer.
+// The first bytes of a buffer, as many as this, or all where it has fewer: for those who fill a buffer of fixed size and are told
+// how much of it.
 pub fn first(bytes: &[u8], count: usize) -> &[u8]
     ensures { FirstPromise bytes.now count result.now }
 {

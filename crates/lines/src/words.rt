@@ -4,7 +4,8 @@ ghost use Rattle.lines.specs.Promises.{PutAnswerPromise, WordsOfPromise};
 use crate::text::put_text;
 use controller::Answer;
 
-// An answer, in the words of the table "What each number says".
+// An answer, in the words of the table "What each number says". No `Display`: the answer is of the crate beneath, which has no
+// words.
 #[tactic(auto, unfolding(crate::specs::Words::answer_words))]
 pub fn words_of(answer: Answer) -> &'static str
     ensures { WordsOfPromise answer result.now }
@@ -33,7 +34,7 @@ pub fn words_of(answer: Answer) -> &'static str
     }
 }
 
-// The same, put into a buffer.
+// The same, put into a buffer. No other crate calls it any more; its promise keeps it (`PutAnswerPromise`).
 pub fn put_answer(out: &mut [u8], at: usize, answer: Answer) -> usize
     ensures { PutAnswerPromise out.old at answer result out.new }
 {

@@ -9,6 +9,7 @@ use crate::fields::{put_byte_field, put_kind_field, put_number_field};
 use crate::text::put_text;
 use controller::{Answer, is_bad};
 
+// Kind, byte and wait come apart here and in the call below, as C gives them (`write_line`).
 fn put_line(kind: u8, byte: u8, wait: u32, out: &mut [u8]) -> usize
     requires { 16 ≤ length out.old }
     ensures { (result ≡ length (line kind byte wait)) × (out.new ≡ sets out.old 0 (line kind byte wait)) }

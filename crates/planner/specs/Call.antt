@@ -49,13 +49,19 @@ told_of reply = record { answer = reply.answer; count = length reply.plan }
 abbrev pub result_of : Planned → Result ℕ Answer
 result_of planned = cond (is_done planned.answer) (Ok planned.count) (Err planned.answer)
 
--- What `plan` promises of a reply: what is returned, and every byte of the buffer.
-pub record Returns (reply : Reply) (before : List ℕ) (returned : Result ℕ Answer) (after : List ℕ) : Type 0 where
-  pub told : returned ≡ result_of (told_of reply)
-  pub buffer : after ≡ laid_out reply.plan before
+-- What a result tells: the answer 0 with this count, or the refusal with none.
+abbrev pub planned_in : Result ℕ Answer → Planned
+planned_in (Ok count) = record { answer = Done; count = count }
+planned_in (Err refusal) = record { answer = refusal; count = 0 }
 
 -- A reply in full: the answer, its number in the table, the count of records, and every byte of the buffer.
 pub record Plans (reply : Reply) (before : List ℕ) (returned : Planned) (after : List ℕ) : Type 0 where
   pub told : returned ≡ told_of reply
   pub number : number_of returned.answer ≡ number_of reply.answer
   pub buffer : after ≡ laid_out reply.plan before
+
+-- What `plan` promises of a reply: what is returned, every byte of the buffer, and the reply in full as the result tells it.
+pub record Returns (reply : Reply) (before : List ℕ) (returned : Result ℕ Answer) (after : List ℕ) : Type 0 where
+  pub told : returned ≡ result_of (told_of reply)
+  pub buffer : after ≡ laid_out reply.plan before
+  pub plans : Plans reply before (planned_in returned) after

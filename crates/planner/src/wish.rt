@@ -39,7 +39,8 @@ pub fn is_wish(wish: Wish, marks: &[u8]) -> bool
         && marks_fit(marks)
 }
 
-// Whether the cell at this place is to be written.
+// Whether the cell at this place is to be written. The caller has the place from his range, and each command asks for its own
+// room.
 #[tactic(auto, unfolding(crate::specs::Wish::marked))]
 pub fn is_marked(marks: &Cells, place: usize) -> bool
     requires { place < 144 }

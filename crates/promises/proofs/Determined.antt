@@ -7,6 +7,7 @@ use Rattle.controller.specs.Answers.{number_of}
 use Rattle.dots.proofs.Answers.{returned as picture_returned}
 use Rattle.drawing.proofs.Laws.Answers.{returned as draw_returned}
 use Rattle.lines.specs.Text.{Put, put}
+use Rattle.planner.proofs.Laws.Reply.{returned as plan_returned}
 use Rattle.lines.proofs.Laws.Told.{answer_told}
 use Rattle.promises.specs.Determined.{ExactlyOne, EachDetermined}
 
@@ -63,7 +64,7 @@ each_determined =
       is_shown = λ n shift profile cell. one _;
       shown_at = λ n shift profile line column. one _;
       size_of = λ profile. one _;
-      plan = λ wish marks values out. two _ _ _ (record { told = refl; buffer = refl }) (λ a l is. (is.told, is.buffer));
+      plan = λ wish marks values out. two _ _ _ (plan_returned wish marks values out) (λ a l is. (is.told, is.buffer));
       hex_digit = λ number. one _;
       worth_of = λ byte. one _;
       three_digits = λ word. one _;

@@ -17,7 +17,7 @@ use telling::{
 };
 
 // The program's name, before what it tells.
-const NAME: &str = "session";
+const NAME: &[u8] = b"session";
 
 // What the report of the longest session wants: six bytes for each byte of it, and 62 more.
 const OUTPUT: usize = 6 * LIMIT + 62;
@@ -61,16 +61,16 @@ fn run(rt: HostRuntime) -> Result<(), Unheard> {
         return tell(
             &mut errors,
             NAME,
-            "these words cannot be followed. Allowed is --khz N, the oscillator's frequency, 190 to 350; without it 250.",
+            b"these words cannot be followed. Allowed is --khz N, the oscillator's frequency, 190 to 350; without it 250.",
         );
     };
     let mut input = [0u8; INPUT];
     let Ok(length) = read_input(&mut rt.stdin(), &mut input) else {
-        return tell_unread(&mut errors, NAME, "Nothing was played.");
+        return tell_unread(&mut errors, NAME, b"Nothing was played.");
     };
     if LIMIT < length {
         send_or_tell(&mut rt.stdout(), &mut errors, NAME, b"too long\n")?;
-        return tell_too_long(&mut errors, NAME, "Nothing was played.");
+        return tell_too_long(&mut errors, NAME, b"Nothing was played.");
     }
     report(rt, &input[..length], frequency)
 }

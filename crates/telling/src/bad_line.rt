@@ -1,6 +1,6 @@
 // A bad line, told on standard error: its number and column, what may stand there, and a hint where the byte there gives one.
 use crate::output::Unheard;
-use crate::words::tell;
+use crate::words::tell_words;
 use controller::Answer;
 use lines::read_line;
 use std::io::Write;
@@ -48,7 +48,7 @@ fn cause_of(answer: Answer, offset: usize, there: Option<u8>) -> &'static str {
 // The bad line of this number that begins at this place of a text. Of one that stands there is nothing to tell.
 pub fn tell_bad_line<W: Write>(
     errors: &mut W,
-    program: &str,
+    program: &[u8],
     line: u64,
     text: &[u8],
     from: usize,
@@ -60,7 +60,7 @@ pub fn tell_bad_line<W: Write>(
     let column = bad.offset + 1;
     let rule = rule_of(bad.answer);
     let cause = cause_of(bad.answer, bad.offset, rest.get(bad.offset).copied());
-    tell(
+    tell_words(
         errors,
         program,
         format_args!("line {line}, column {column}: {rule}{cause}"),

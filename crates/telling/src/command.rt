@@ -14,6 +14,7 @@ pub fn word_count<E: Env>(env: &E) -> usize {
 }
 
 // Puts the word at this place at the start of a buffer, and gives its length: none where it is missing or longer than the buffer.
+// A length, as std tells it.
 pub fn put_word<E: Env>(env: &E, at: usize, word: &mut [u8]) -> Option<usize>
     ensures { IfSome result (λ put. put ≤ length word.new) }
 {

@@ -12,7 +12,9 @@ pub use bad_line::tell_bad_line;
 pub use command::{frequency_of, put_word, word_count};
 pub use input::{Unread, read_input};
 pub use output::{Unheard, Unsent, heard, send, status_of};
-pub use words::{send_or_tell, tell, tell_too_long, tell_unread, whole_or_told};
+pub use words::{
+    send_or_tell, tell, tell_too_long, tell_unread, tell_unwritten, tell_words, whole_or_told,
+};
 
 // The longest session.
 pub const LIMIT: usize = 65_536;

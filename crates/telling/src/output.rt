@@ -20,6 +20,10 @@ pub enum Unsent {
 pub struct Unheard;
 
 impl From<Unheard> for Unsent {
+    ghost use Rattle.telling.specs.declared.output.Unsent.{Unsent};
+
+    ghost from_gives = { λ _ unsent. unsent ≡ Unsent.Unheard };
+
     fn from(_: Unheard) -> Unsent {
         Unsent::Unheard
     }

@@ -2,7 +2,7 @@
 use crate::row::Action;
 use controller::{
     Control, Counter, Entry, Frequency, Function, Kind, Record, after_reset, is_refusal, reset,
-    short_time, transfer,
+    short_time, transfer_in,
 };
 
 // A controller with its memory.
@@ -40,9 +40,8 @@ impl Bench {
     }
 
     fn send(&mut self, kind: Kind, byte: u8, wait: u32) -> Result<(), Refused> {
-        let outcome = transfer(self.rec, &mut self.memory, kind as u8, byte, wait);
-        self.rec = outcome.rec;
-        if is_refusal(outcome.answer) {
+        let told = transfer_in(&mut self.rec, &mut self.memory, kind as u8, byte, wait);
+        if is_refusal(told.answer) {
             Err(Refused)
         } else {
             Ok(())

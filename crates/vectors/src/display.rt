@@ -30,7 +30,8 @@ fn see_letters(
 }
 
 // The address of the cell that was filled with this code. The cells were filled in their order from 21h on, so 49h is in
-// cell 40, which with two lines is the first of line 2. A position with none of these codes has no address.
+// cell 40, which with two lines is the first of line 2. A position with none of these codes has no address: FF
+// stands in no table of the manual, so that it shows as a difference.
 fn address_of(n: bool, code: Option<u8>) -> u8 {
     match code {
         Some(code @ 0x49..) if n => code - 0x49 + 0x40,

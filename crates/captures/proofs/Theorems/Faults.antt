@@ -1,6 +1,6 @@
 -- What the faults tell is so: what is wrong stays wrong to the end of the text.
 -- Assumes nothing.
-use Rattle.std.proofs.Common.{◌≡◌, ℕ, ◌+◌, Bool, true, false, cond, not, ◌&&◌, ◌||◌, ltb, ◌⊎◌, List, [], ◌∷◌, ◌++◌, length, drop, sym, refl, ap, ◌∙◌, inl, inr, ⊎_elim, true≢false}
+use Rattle.std.proofs.Common.{is_some, ◌≡◌, ℕ, ◌+◌, Bool, true, false, cond, not, ◌&&◌, ◌||◌, ltb, ◌⊎◌, List, [], ◌∷◌, ◌++◌, length, drop, sym, refl, ap, ◌∙◌, inl, inr, ⊎_elim, true≢false}
 use mathlib.Core.Bool.{false≢true}
 use Rattle.controller.proofs.Laws.Choice.{cond-elim}
 use Rattle.lines.proofs.Laws.Digits.{either}
@@ -10,7 +10,8 @@ use Rattle.captures.specs.Words.{Word, words, is_empty, place_in}
 use Rattle.captures.specs.Form.{changes_come, code_comes, name_comes, is_change, is_stamp, is_whole, past}
 use Rattle.captures.specs.Definitions.{Head, blank_head, defined, defined_by, declares, entering, named, names, placed}
 use Rattle.captures.specs.Falls.{Fall, blank_scan, ends, fall_at, falls, falls_from, scanned, scanned_by}
-use Rattle.captures.specs.Faults.{Unknown, fault_of, fault_with, is_undeclared, is_unfinished, is_wrong, unknown_from, unknown_of, wrong_from}
+use Rattle.captures.specs.Faults as Faults
+use Rattle.captures.specs.Faults.{Unknown, fault_of, fault_with, is_undeclared, is_unfinished, is_wrong, unknown_from, unknown_of, unknown_told, wrong_from}
 use Rattle.captures.specs.Unheeded.{reached}
 use Rattle.captures.specs.Import.{head_of, in_subset, scan_of, unknown_at, unknown_in}
 use Rattle.captures.specs.Theorems.{FaultsFound}
@@ -199,8 +200,16 @@ faults_found =
           ∙ ap (λ (b : Bool). is_whole (scan_of capture).phase && not b) parts.1
           ∙ and-true (is_whole (scan_of capture).phase);
       unknown = λ capture. found_is (words capture) (head_of capture).codes blank_scan 0 0 (words capture);
+      told = λ capture. some_told (Faults.unknown_in capture) ∙ found_is (words capture) (head_of capture).codes blank_scan 0 0 (words capture);
     }
   where
+    some_told : (u : Unknown) → is_some (unknown_told u) ≡ u.found
+    some_told u = go u.found refl
+      where
+        go : (b : Bool) → u.found ≡ b → is_some (unknown_told u) ≡ u.found
+        go true e = rw e refl
+        go false e = rw e refl
+
     and-true : (b : Bool) → (b && true) ≡ b
     and-true true = refl
     and-true false = refl

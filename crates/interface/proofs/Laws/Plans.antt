@@ -20,23 +20,10 @@ use Rattle.planner.specs.Call.{Returns, Reply, reply_to, result_of, told_of, tur
 use Rattle.planner.specs.Plan.{plan_of}
 use Rattle.planner.specs.Wish.{is_wish}
 use Rattle.planner.proofs.Laws.Count.{plan_bound}
+use Rattle.planner.proofs.Laws.Reply.{reply_cases}
 use Rattle.interface.specs.Filling.{Fills}
 use Rattle.interface.specs.PlanCalls.{plan_call, plan_from, planning_of, wishless}
 use Rattle.interface.specs.WishBytes.{wish_in}
-
--- what holds of each refusal and of the plan of a wish holds of a reply
-reply_cases : (P : Reply → Type 0) (wish : Wish) (marks values out : List ℕ) → P (turned_down NotWhole) → P (turned_down NotWish) → P (turned_down OutputShort)
-    → (is_wish wish marks ≡ true → P (record { answer = Done; plan = plan_of wish marks values })) → P (reply_to wish marks values out)
-unfolding reply_to
-reply_cases P wish marks values out lengths wished short made =
-    let plan : Reply = record { answer = Done; plan = plan_of wish marks values } in
-    let last : Reply = cond (ltb (length out) wanted) (turned_down OutputShort) plan in
-    let third : Reply = cond (not (is_wish wish marks)) (turned_down NotWish) last in
-    let second : Reply = cond (not (whole values)) (turned_down NotWhole) third in
-    cond-elim P (not (whole marks)) (turned_down NotWhole) second (λ _. lengths)
-    (λ _. cond-elim P (not (whole values)) (turned_down NotWhole) third (λ _. lengths)
-    (λ _. cond-elim P (not (is_wish wish marks)) (turned_down NotWish) last (λ _. wished)
-    (λ is. cond-elim P (ltb (length out) wanted) (turned_down OutputShort) plan (λ _. short) (λ _. made (not-false (is_wish wish marks) is)))))
 
 -- the records of a reply are at most 468
 pub reply_bound : (wish : Wish) (marks values out : List ℕ) → length (reply_to wish marks values out).plan ≤ 468

@@ -5,12 +5,12 @@ use mathlib.Core.List.{List, [], ◌∷◌, ◌++◌}
 use mathlib.Core.Path.{◌≡◌, ap, ◌∙◌}
 use Prim.Native.Nat.{ℕ, ◌+◌, ◌*◌, ◌/◌, ◌%◌, ◌<◌, ◌≤◌}
 use native.Mathlib.Omega.{arith}
-use borrow.Author.Tests.{leb-true, le-leb, ne_eqb}
+use borrow.Author.Tests.{leb-true, le-leb, lt-ltb, ne_eqb}
 use lib.Dec.{leb, eqb}
 use lib.ListN.{length}
 use Rattle.controller.proofs.Laws.Choice.{and_left, and_right}
 use Rattle.lines.proofs.Laws.Digits.{either, decimal_small, decimal_split, digit_worth, worth_digit}
-use Rattle.lines.specs.Digits.{decimal, digit, three_digits, three_say, worth_of}
+use Rattle.lines.specs.Digits.{are_three, decimal, digit, three_digits, three_say, worth_of}
 use Rattle.lines.specs.Theorems.{ThreeDigitsRead}
 
 -- the digits of a number of three
@@ -69,5 +69,15 @@ word_read (a ∷ b ∷ c ∷ d ∷ rest) large =
     let none : 100 ≤ 0 = simp other at large in
     absurd (omega arith)
 
+-- such a number has three digits
+three_found : (n : ℕ) → 100 ≤ n → n < 1000 → are_three (decimal n) ≡ true
+unfolding are_three
+three_found n large small =
+    let h : worth_of (digit (n / 10 / 10)) ≡ n / 10 / 10 = worth_digit (n / 10 / 10) (omega arith) in
+    let t : worth_of (digit (n / 10 % 10)) ≡ n / 10 % 10 = worth_digit (n / 10 % 10) (omega arith) in
+    let o : worth_of (digit (n % 10)) ≡ n % 10 = worth_digit (n % 10) (omega arith) in
+    ap are_three (three_spelled n large small)
+    ∙ simp (h, t, o, lt-ltb (n / 10 / 10) 10 (omega arith), lt-ltb (n / 10 % 10) 10 (omega arith), lt-ltb (n % 10) 10 (omega arith))
+
 pub three_digits_read : ThreeDigitsRead
-three_digits_read = (number_read, word_read)
+three_digits_read = (λ n large small. (number_read n large small, three_found n large small), word_read)

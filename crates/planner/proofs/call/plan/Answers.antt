@@ -11,19 +11,19 @@ use Rattle.planner.proofs.call.plan.Goals as goal
 
 pub returns-in_default : goal.returns-in_default
 unfolding reply_to whole laid_out encoded
-returns-in_default c = record { told = search rules; buffer = search rules }
+returns-in_default c = record { told = search rules; buffer = search rules; plans = record { told = search rules; number = search rules; buffer = search rules } }
 
 pub returns-in_default-try_from : goal.returns-in_default-try_from
 unfolding reply_to whole laid_out encoded
-returns-in_default-try_from c = record { told = search rules; buffer = search rules }
+returns-in_default-try_from c = record { told = search rules; buffer = search rules; plans = record { told = search rules; number = search rules; buffer = search rules } }
 
 pub returns-then-not-is_wish : goal.returns-then-not-is_wish
 unfolding reply_to whole laid_out encoded
-returns-then-not-is_wish c = record { told = search rules; buffer = search rules }
+returns-then-not-is_wish c = record { told = search rules; buffer = search rules; plans = record { told = search rules; number = search rules; buffer = search rules } }
 
 pub returns-in_default-first_chunk_mut : goal.returns-in_default-first_chunk_mut
 unfolding reply_to whole laid_out encoded wanted
-returns-in_default-first_chunk_mut c = record { told = search rules; buffer = search rules }
+returns-in_default-first_chunk_mut c = record { told = search rules; buffer = search rules; plans = record { told = search rules; number = search rules; buffer = search rules } }
 
 pub returns : goal.returns
 returns c =
