@@ -1,6 +1,6 @@
 -- The table of short codes: what a change of each does to the lines. Only the code's own contracts cite these.
 -- Assumes nothing.
-use Rattle.std.specs.Prelude.{◌≡◌, ℕ, ◌+◌, ◌-◌, ◌*◌, ◌<◌, true, false, cond, List, [], ◌∷◌, length, ◌==◌, ◌≢◌, nat_lt}
+use Rattle.std.specs.Prelude.{◌≡◌, ℕ, ◌+◌, ◌-◌, ◌*◌, ◌<◌, true, false, cond, ◌&&◌, List, [], ◌∷◌, length, drop, ◌==◌, ◌≢◌, nat_lt}
 use Rattle.std.specs.Prelude.{slice_index_or, slice_set}
 use Rattle.lines.specs.Digits.{between}
 use Rattle.captures.specs.declared.form.Phase.{Phase}
@@ -8,7 +8,7 @@ use Rattle.captures.specs.declared.table.Entry.{Entry}
 use Rattle.captures.specs.declared.table.Entry.TheVariants.{Line, Spare, Unknown, Several}
 use Rattle.captures.specs.declared.form.Phase.TheVariants.{Section}
 use Rattle.captures.specs.Words.{Word, same}
-use Rattle.captures.specs.Form.{code_comes}
+use Rattle.captures.specs.Form.{code_comes, changes_come, is_change}
 use Rattle.captures.specs.Definitions.{declares}
 
 -- How many codes have one or two characters, each 21h to 7Eh: 94, and 94 times 94.
@@ -64,3 +64,7 @@ IsEntry number (Line line) = (number ≡ line) × (line < 11)
 IsEntry number Spare = number ≡ 11
 IsEntry number Unknown = number ≡ 12
 IsEntry number Several = 12 < number
+
+-- The one line that a word sets, where the table has it: 11 where it sets none, 12 and more where the table does not tell.
+unfoldable pub line_set : List ℕ → Phase → Word → ℕ
+line_set table phase w = cond (changes_come phase && is_change w) (entry_of table (drop 1 w)) 12

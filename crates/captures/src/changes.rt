@@ -1,11 +1,12 @@
 // A capture whose definitions are read, and what a word more of it does to the lines.
-ghost use Rattle.std.specs.Prelude.{◌≡◌, IfSome, false, not, ◌&&◌, ◌||◌};
+ghost use Rattle.std.specs.Prelude.{◌≡◌, false, nat_lt, not, ◌&&◌, ◌||◌};
+ghost use Rattle.std.specs.Bool.{MatchBool};
 ghost use Rattle.captures.specs.Words.{words};
 ghost use Rattle.captures.specs.Form.{number_of_level, numbers_of, past, stamp_said};
 ghost use Rattle.captures.specs.Definitions.{declares};
 ghost use Rattle.captures.specs.Falls.{altered, changed, ends, in_phase, scanned};
 ghost use Rattle.captures.specs.Walk.{codes_in, scan_in};
-ghost use Rattle.captures.specs.Table.{Tabled};
+ghost use Rattle.captures.specs.Table.{Tabled, line_set};
 ghost use Rattle.captures.specs.declared.form.Phase.TheVariants as Phase;
 
 use crate::definitions::Codes;
@@ -75,24 +76,28 @@ impl<'a, 't> Capture<'a, 't> {
         }
     }
 
-    // The capture with a word more, where that is a change of a short code that serves one line or none: most words are.
-    pub fn change_short(&self, scan: Scan, word: &[u8]) -> Option<Scan>
-        ensures { IfSome result (λ next.
-            (scan_in next ≡ scanned (words self.now.text.now) (codes_in self.now.codes) (scan_in scan) word.now)
-            × (ends (scan_in scan) word.now ≡ false)) }
+    // Whether the table tells what a word does: a change of a short code that serves one line or none, as most words are. Then it
+    // is done, in place, so that a word costs one level and no copy of the scan; else nothing is.
+    pub fn change_short(&self, scan: &mut Scan, word: &[u8]) -> bool
+        ensures { (result ≡ nat_lt (line_set self.now.table.now scan.old.phase word.now) 12)
+            × MatchBool result
+            ((scan_in scan.new ≡ scanned (words self.now.text.now) (codes_in self.now.codes) (scan_in scan.old) word.now)
+            × (ends (scan_in scan.old) word.now ≡ false))
+            (scan.new ≡ scan.old) }
     {
         if !scan.phase.changes_come() {
-            return None;
+            return false;
         }
-        let change = change_of(word)?;
+        let Some(change) = change_of(word) else {
+            return false;
+        };
         match entry_of(self.table, change.code) {
             Entry::Line(line) => {
-                let mut levels = scan.levels;
-                levels[line] = change.level;
-                Some(Scan { levels, ..scan })
+                scan.levels[line] = change.level;
+                true
             }
-            Entry::Spare => Some(scan),
-            Entry::Unknown | Entry::Several => None,
+            Entry::Spare => true,
+            Entry::Unknown | Entry::Several => false,
         }
     }
 

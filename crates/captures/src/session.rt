@@ -32,8 +32,7 @@ fn walk(capture: &Capture, out: &mut [u8]) -> Ended
     let mut scan = Scan::new();
     let mut tally = Tally::new();
     for word in words_of(capture.text) {
-        if let Some(next) = capture.change_short(scan, word) {
-            scan = next;
+        if capture.change_short(&mut scan, word) {
             continue;
         }
         let stamp = stamp_of(word);

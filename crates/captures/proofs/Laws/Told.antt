@@ -1,17 +1,21 @@
 -- Laws of the changes that the table tells: they set one line or none, and end no stamp.
 -- Assumes nothing.
 use Rattle.std.proofs.Common.{◌≡◌, ℕ, suc, ◌<◌, ◌≤◌, Bool, true, false, cond, not, ◌||◌, eqb, ltb, List, [], ◌∷◌, length, get_or, drop, set, sym, refl, ap, ◌∙◌, arith, ltb-false, ltb-true, lt-ltb, ne_eqb, eqb-true, le-leb, leb-true}
+use Rattle.std.proofs.lemmas.Bool.{le-ltb}
+use mathlib.Core.Logic.{◌⊎◌, ⊎_elim}
 use Prim.Native.Char.{code}
 use lib.ListN.{get_or-eq_default}
 use Rattle.captures.specs.declared.form.Phase.{Phase}
 use Rattle.captures.specs.declared.form.Phase.TheVariants.{Section}
+use Rattle.captures.specs.declared.table.Entry.{Entry}
+use Rattle.captures.specs.declared.table.Entry.TheVariants.{Unknown, Several}
 use Rattle.captures.specs.Falls.{Scan}
 use Rattle.captures.specs.Words.{Word, is_empty, is_plain, same, is}
 use Rattle.captures.specs.Form.{asked, changes_come, is_change, after, changing, past, stamp_of, no_stamp, level_of, level_set}
 use Rattle.captures.specs.Definitions.{declares}
 use Rattle.captures.specs.Falls.{ends, altered, in_phase, scanned}
 use Rattle.captures.specs.Walk.{with_levels}
-use Rattle.captures.specs.Table.{short_codes, place_of, entry_of, Tabled}
+use Rattle.captures.specs.Table.{short_codes, place_of, entry_of, line_set, IsEntry, Tabled}
 use Rattle.captures.proofs.Laws.Over.{late_phase}
 use Rattle.captures.proofs.Laws.Falls.{or_none, scan_change}
 use Rattle.captures.proofs.Laws.Table.{place_plain, changed_before, changed_one}
@@ -72,6 +76,29 @@ no_stamp_lem [] sets = refl
 no_stamp_lem (a ∷ []) sets = refl
 no_stamp_lem (a ∷ b ∷ w) sets = simp (ne_eqb a (code "#") (λ one. let at = level_plain a sets in omega arith))
 
+-- where the table does not tell: before the changes, a word that is none, and one with a code that is not known or serves
+-- several lines
+pub untold_phase : (table : List ℕ) (phase : Phase) (w : Word) → false ≡ changes_come phase → false ≡ ltb (line_set table phase w) 12
+unfolding line_set
+untold_phase table phase w late = simp (sym late)
+
+pub untold_word : (table : List ℕ) (phase : Phase) (w : Word) → true ≡ changes_come phase → is_change w ≡ false
+    → false ≡ ltb (line_set table phase w) 12
+unfolding line_set
+untold_word table phase w late sets = simp (sym late, sets)
+
+pub untold_entry : (table : List ℕ) (phase : Phase) (w : Word) (number : ℕ) (entry : Entry) → true ≡ changes_come phase → is_change w ≡ true
+    → number ≡ entry_of table (drop 1 w) → IsEntry number entry → (entry ≡ Unknown) ⊎ (entry ≡ Several) → false ≡ ltb (line_set table phase w) 12
+unfolding line_set
+untold_entry table phase w number entry late sets is read one =
+    sym (simp (sym late, sets, sym is) (le-ltb number 12 (⊎_elim unknown several one)))
+  where
+    unknown : entry ≡ Unknown → 12 ≤ number
+    unknown at = let none : number ≡ 12 = rw at at read in omega (arith, none)
+
+    several : entry ≡ Several → 12 ≤ number
+    several at = let past : 12 < number = rw at at read in omega (arith, past)
+
 -- what the table tells of a word, from its parts
 record Known (table : List ℕ) (phase : Phase) (w : Word) (line : ℕ) : Type 0 where
   late : 3 ≤ asked phase
@@ -109,6 +136,10 @@ module _ (table : List ℕ) (all codes : List Word) (t : Tabled table all codes 
   serves : (n : ℕ) → n < 11 → same (get_or codes n []) (drop 1 w) ≡ eqb n line
   serves n less = t.serves (drop 1 w) n less (let entry = known_as.entry in omega arith) ∙ ap (eqb n) (sym known_as.entry)
 
+  pub is_told : true ≡ ltb (line_set table scan.phase w) 12
+  unfolding line_set
+  is_told = sym (simp (comes, change, sym entry, lt-ltb line 12 known))
+
   pub set_one : line < 11 → with_levels scan (set scan.levels line (level_set w)) ≡ scanned all codes scan w
   set_one one =
       let levels = changed_one codes (drop 1 w) (level_set w) scan.levels line 11 serves one in
@@ -124,3 +155,8 @@ module _ (table : List ℕ) (all codes : List Word) (t : Tabled table all codes 
 
   pub ends_none : ends scan w ≡ false
   ends_none = simp (le-leb 3 (asked scan.phase) known_as.late, no_stamp_lem w known_as.sets)
+
+-- what the table has of a change's code is the line that the change sets
+pub line_told_lem : (table : List ℕ) (phase : Phase) (w : Word) → 3 ≤ asked phase → level_set w < 3 → entry_of table (drop 1 w) ≡ line_set table phase w
+unfolding line_set
+line_told_lem table phase w late sets = simp (le-leb 3 (asked phase) late, lt-ltb (level_set w) 3 sets)
