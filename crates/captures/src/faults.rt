@@ -105,9 +105,13 @@ pub fn wrong_word(capture: &[u8]) -> Wrong
 pub fn lacks_signal(capture: &[u8], line: usize) -> bool
     ensures { LacksSignalPromise capture.now line result }
 {
+    // For a line that there is not nothing is read.
+    if 11 <= line {
+        return false;
+    }
     let mut table = blank_table();
     let head = read_head(capture, &mut table);
-    line < 11 && head.codes[line].is_empty()
+    head.codes[line].is_empty()
 }
 
 // A fall with x or z on a needed line: where its stamp stands in the text, the stamp, and the levels of the eleven lines.
