@@ -94,24 +94,41 @@ fn second_half(memory: &Memory, other: bool, transfer: Transfer, rec: Record) ->
     )
 }
 
-// Width 4: the half that waits says what this transfer is.
+// Width 4: the half that waits says what this transfer is. Each half ends in a call of its own: with one call for all four, of
+// what the half says, a transfer over four wires takes more time.
 #[tactic(auto, unfolding(crate::specs::Halves::narrow))]
 fn accept_narrow(memory: &Memory, kind: Kind, byte: u8, rec: Record) -> Decision
     requires { Ready rec }
     ensures { result ≡ narrow memory.now (kind_number kind) byte rec.half rec }
 {
     let low = byte / 16;
-    let (first, transfer) = match rec.half {
-        Half::Empty => return first_half(begin(kind, byte, rec), rec),
-        Half::InstructionWrite(high) => (
-            Kind::InstructionWrite,
+    match rec.half {
+        Half::Empty => first_half(begin(kind, byte, rec), rec),
+        Half::InstructionWrite(high) => second_half(
+            memory,
+            kind != Kind::InstructionWrite,
             Transfer::Instruct(high * 16 + low),
+            rec,
         ),
-        Half::DataWrite(high) => (Kind::DataWrite, Transfer::Write(high * 16 + low)),
-        Half::StatusRead(taken) => (Kind::StatusRead, Transfer::Status(taken)),
-        Half::DataRead(taken) => (Kind::DataRead, Transfer::Read(taken)),
-    };
-    second_half(memory, kind != first, transfer, rec)
+        Half::DataWrite(high) => second_half(
+            memory,
+            kind != Kind::DataWrite,
+            Transfer::Write(high * 16 + low),
+            rec,
+        ),
+        Half::StatusRead(taken) => second_half(
+            memory,
+            kind != Kind::StatusRead,
+            Transfer::Status(taken),
+            rec,
+        ),
+        Half::DataRead(taken) => second_half(
+            memory,
+            kind != Kind::DataRead,
+            Transfer::Read(taken),
+            rec,
+        ),
+    }
 }
 
 // Width 8: the transfer is complete at once. Width 4: it is taken as a half.
