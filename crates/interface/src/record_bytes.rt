@@ -1,5 +1,5 @@
 // A controller's record as 24 bytes: the numbers of the header, each converted once, by a match.
-ghost use Rattle.std.specs.Prelude.{◌≡◌, ◌∷◌, [], cond, length, Some, None};
+ghost use Rattle.std.specs.Prelude.{◌≡◌, ◌∷◌, [], length};
 ghost use Rattle.interface.specs.RecordBytes.{counter_from, frequency_from, half_byte, half_from, high_byte, is_record_long};
 ghost use Rattle.interface.specs.RecordBytes.{low_byte};
 ghost use Rattle.interface.specs.RecordBytes.{memory_byte, record_bytes, record_from, record_in, same_bytes, value_byte};
@@ -148,11 +148,17 @@ pub fn record_from(bytes: &[u8]) -> Record
     }
 }
 
-// What bytes say that would say this thing, if they are its own.
-pub fn if_own<T: Copy + Drop>(found: T, own: &[u8], bytes: &[u8]) -> Option<T>
-    ensures { result ≡ cond (same_bytes bytes.now own.now) (Some found) None }
+// Whether bytes are these. Arrays and a loop: the length is known, so that nothing but the comparisons is left of the loop, where
+// `==` would put the bytes into memory first, and every call from C pays for it.
+pub fn are_same<const N: usize>(bytes: &[u8; N], own: &[u8; N]) -> bool
+    ensures { result ≡ same_bytes bytes.now own.now }
 {
-    if bytes == own { Some(found) } else { None }
+    for at in 0..N {
+        if bytes[at] != own[at] {
+            return false;
+        }
+    }
+    true
 }
 
 // Whether bytes are as many as a record has.
@@ -167,11 +173,15 @@ pub fn is_record_long(bytes: &[u8]) -> bool
 pub fn read_record(bytes: &[u8]) -> Option<Record>
     ensures { result ≡ record_in bytes.now }
 {
-    if !is_record_long(bytes) {
+    let Ok(bytes) = <&[u8; 24]>::try_from(bytes) else {
         return None;
-    }
+    };
     let rec = record_from(bytes);
-    if_own(rec, &bytes_of(rec), bytes)
+    if are_same(bytes, &bytes_of(rec)) {
+        Some(rec)
+    } else {
+        None
+    }
 }
 
 // Writes a record over 24 bytes.

@@ -2,7 +2,7 @@
 ghost use Rattle.std.specs.Prelude.{◌≡◌, length};
 ghost use Rattle.interface.specs.WishBytes.{wish_bytes, wish_from, wish_in};
 
-use crate::record_bytes::{frequency_from, if_own, khz_bytes};
+use crate::record_bytes::{are_same, frequency_from, khz_bytes};
 use controller::{Control, Entry, Function};
 use planner::Wish;
 
@@ -61,9 +61,13 @@ fn wish_from(bytes: &[u8]) -> Wish
 pub fn read_wish(bytes: &[u8]) -> Option<Wish>
     ensures { result ≡ wish_in bytes.now }
 {
-    if bytes.len() != 16 {
+    let Ok(bytes) = <&[u8; 16]>::try_from(bytes) else {
         return None;
-    }
+    };
     let wish = wish_from(bytes);
-    if_own(wish, &wish_bytes_of(wish), bytes)
+    if are_same(bytes, &wish_bytes_of(wish)) {
+        Some(wish)
+    } else {
+        None
+    }
 }
