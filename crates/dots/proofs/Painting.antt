@@ -121,3 +121,11 @@ painted_front f count out room =
     let long : length (take count out) ≡ count = rw length-take (omega arith) in
     rw zero-add at (painted_part f 0 count out (painted f 0 count (take count out)) (omega arith) (painted_length f 0 (take count out) count ∙ long)
     (λ i h. painted_at f 0 (take count out) count i (omega arith) (omega arith) (omega arith) ∙ ap f (sym (zero-add i))))
+
+-- Two functions that agree on a stretch paint it alike.
+pub painted_alike : (f g : ℕ → ℕ) (start count : ℕ) (out : List ℕ) → ((i : ℕ) → i < count → f (start + i) ≡ g (start + i))
+    → painted f start count out ≡ painted g start count out
+unfolding painted
+painted_alike f g start zero out same = refl
+painted_alike f g start (suc count) out same =
+    rw (painted_alike f g start count out (λ i h. same i (omega arith)), same count (omega arith)) refl

@@ -240,4 +240,7 @@ unfolding output
 picture_refusals rec mem profile lit out e = rw e refl
 
 pub one_picture : OnePicture
-one_picture rec mem profile lit before a b x y p q = (p.told ∙ sym q.told, p.out ∙ sym q.out)
+one_picture = record {
+  result = λ rec mem profile lit before a b x y p q. (p.told ∙ sym q.told, p.pictured.out ∙ sym q.pictured.out);
+  answer = λ rec mem profile lit before a b x y p q. (p.told ∙ sym q.told, p.out ∙ sym q.out);
+}

@@ -4,7 +4,7 @@
 -- The theorems of the panels stand in Profiles.antt.
 -- Assumes nothing.
 use Rattle.std.specs.Prelude.{Bool, true, false, cond, ◌&&◌, List, [], ◌∷◌, ◌⊎◌, ◌≡◌, ℕ, ◌+◌, ◌*◌, ◌%◌, ◌≤◌, ◌<◌, eqb, length}
-use Rattle.std.specs.Prelude.{get_or, Some}
+use Rattle.std.specs.Prelude.{get_or, Some, Result, ⊤}
 use Rattle.controller.specs.declared.cells.Counter.TheVariants.{Display}
 use Rattle.controller.specs.declared.answers.Answer.{Answer}
 use Rattle.controller.specs.declared.answers.Answer.TheVariants.{Done}
@@ -18,7 +18,7 @@ use Rattle.dots.specs.declared.panel.Profile.TheVariants.{Plain, FourRows, Divid
 use Rattle.dots.specs.Font.{font, shape_rows, table_length, table_row}
 use Rattle.dots.specs.Geometry.{height, picture_length, cell_at, shown_at}
 use Rattle.dots.specs.Panel.{size_of}
-use Rattle.dots.specs.Picture.{Pictured, answered, cell_row, dots_on, output, row_of}
+use Rattle.dots.specs.Picture.{Pictured, PictureReturns, answered, cell_row, dots_on, output, row_of}
 
 -- This call is answered 0.
 abbrev pub Draws : Record → List ℕ → Profile → List ℕ → Type 0
@@ -189,8 +189,12 @@ PictureRefusals =
     (rec : Record) (mem : List ℕ) (profile : Profile) (lit : Bool) (out : List ℕ)
     → is_refusal (answered rec mem profile (length out)) ≡ true → output rec mem profile lit out ≡ out
 
--- No second answer fits: two answers that both meet the promise are one, and so are the outputs.
-abbrev pub OnePicture : Type 0
-OnePicture =
-    (rec : Record) (mem : List ℕ) (profile : Profile) (lit : Bool) (before : List ℕ) (a b : Answer) (x y : List ℕ)
-    → Pictured rec mem profile lit before a x → Pictured rec mem profile lit before b y → (a ≡ b) × (x ≡ y)
+-- No second answer fits: two results that both meet the promise of `picture` are one, and so are the outputs; and so it is of the
+-- answers that they tell.
+pub record OnePicture : Type 0 where
+  pub result :
+      (rec : Record) (mem : List ℕ) (profile : Profile) (lit : Bool) (before : List ℕ) (a b : Result ⊤ Answer) (x y : List ℕ)
+      → PictureReturns rec mem profile lit before a x → PictureReturns rec mem profile lit before b y → (a ≡ b) × (x ≡ y)
+  pub answer :
+      (rec : Record) (mem : List ℕ) (profile : Profile) (lit : Bool) (before : List ℕ) (a b : Answer) (x y : List ℕ)
+      → Pictured rec mem profile lit before a x → Pictured rec mem profile lit before b y → (a ≡ b) × (x ≡ y)

@@ -97,4 +97,7 @@ draw_fits form rec mem profile lit before returned after drawn =
     go false is = (passed rec mem profile _ _ is).room
 
 pub one_drawing : OneDrawing
-one_drawing form rec mem profile lit before a b x y p q = (p.told ∙ sym q.told, p.out ∙ sym q.out)
+one_drawing = record {
+  result = λ form rec mem profile lit before a b x y p q. (p.told ∙ sym q.told, p.drawn.out ∙ sym q.drawn.out);
+  written = λ form rec mem profile lit before a b x y p q. (p.told ∙ sym q.told, p.out ∙ sym q.out);
+}

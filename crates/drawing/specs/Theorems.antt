@@ -1,8 +1,9 @@
 -- What is proved of the drawings: each theorem is a type here, and its proof stands in proofs/Theorems.antt or, of the letters,
 -- in proofs/Positions.antt.
 -- Assumes nothing.
-use Rattle.std.specs.Prelude.{Bool, true, false, List, ◌↔◌, ◌≡◌, ℕ, ◌+◌, ◌*◌, ◌/◌, ◌≤◌, ◌<◌, length, get_or, Some}
+use Rattle.std.specs.Prelude.{Bool, true, false, List, ◌↔◌, ◌≡◌, ℕ, ◌+◌, ◌*◌, ◌/◌, ◌≤◌, ◌<◌, length, get_or, Some, Result}
 use Prim.Native.Char.{code}
+use Rattle.controller.specs.declared.answers.Answer.{Answer}
 use Rattle.controller.specs.declared.answers.Answer.TheVariants.{Done}
 use Rattle.controller.specs.declared.cells.Counter.{Counter}
 use Rattle.controller.specs.declared.cells.Counter.TheVariants.{Display}
@@ -23,7 +24,7 @@ use Rattle.drawing.specs.declared.grid.Grid.{Grid}
 use Rattle.drawing.specs.Grid.{dot_of, is_lit}
 use Rattle.drawing.specs.Letters.{letter_for}
 use Rattle.drawing.specs.Listing.{is_spare}
-use Rattle.drawing.specs.Drawing.{Drawn, Written, answering, dots_of, drawn_byte, grid_for}
+use Rattle.drawing.specs.Drawing.{DrawReturns, Drawn, Written, answering, dots_of, drawn_byte, grid_for}
 use Rattle.drawing.specs.State.{address_shown}
 
 -- Five columns of the grid for each column of the glass, and a row for each row of dots: the grid is lit where the picture's dot
@@ -107,8 +108,13 @@ DrawFits =
     (returned : Written) (after : List ℕ)
     → Drawn form rec mem profile lit before returned after → returned.length ≤ length before
 
--- No second answer fits: two results that both meet the promise are one, and so are the outputs.
-abbrev pub OneDrawing : Type 0
-OneDrawing =
-    (form : Form) (rec : Record) (mem : List ℕ) (profile : Profile) (lit : Bool) (before : List ℕ) (a b : Written) (x y : List ℕ)
-    → Drawn form rec mem profile lit before a x → Drawn form rec mem profile lit before b y → (a ≡ b) × (x ≡ y)
+-- No second answer fits: two results that both meet the promise of `draw` are one, and so are the outputs; and so it is of the
+-- answers and lengths that they tell.
+pub record OneDrawing : Type 0 where
+  pub result :
+      (form : Form) (rec : Record) (mem : List ℕ) (profile : Profile) (lit : Bool) (before : List ℕ)
+      (a b : Result ℕ Answer) (x y : List ℕ)
+      → DrawReturns form rec mem profile lit before a x → DrawReturns form rec mem profile lit before b y → (a ≡ b) × (x ≡ y)
+  pub written :
+      (form : Form) (rec : Record) (mem : List ℕ) (profile : Profile) (lit : Bool) (before : List ℕ) (a b : Written) (x y : List ℕ)
+      → Drawn form rec mem profile lit before a x → Drawn form rec mem profile lit before b y → (a ≡ b) × (x ≡ y)

@@ -1,16 +1,17 @@
 -- What is proved of the definitions beside demand 3: each theorem is a type here, and its proof stands in proofs/Theorems.
 -- Assumes nothing.
 use Rattle.std.specs.Prelude.{true, false, cond, List, [], ◌∷◌, map, ◌⊎◌, ◌↔◌, ◌≡◌, ℕ, zero, suc, ◌≤◌, ◌<◌, length, get_or, take}
-use Rattle.std.specs.Prelude.{drop, replicate}
+use Rattle.std.specs.Prelude.{drop, replicate, Result}
 use Rattle.controller.specs.Answers.{number_of, Row, Tells}
 use Rattle.controller.specs.Record.{sound}
 use Rattle.controller.specs.Oscillator.{newer, older}
 use Rattle.controller.specs.Rows.{NotLong, OutOfRange}
 use Rattle.controller.specs.declared.sent.Sent.{Sent}
 use Rattle.controller.specs.Runs.{State, heard, ran}
+use Rattle.controller.specs.declared.answers.Answer.{Answer}
 use Rattle.controller.specs.declared.answers.Answer.TheVariants.{Done}
 use Rattle.planner.specs.declared.wish.Wish.{Wish}
-use Rattle.planner.specs.Call.{Planned, reply_to, Plans}
+use Rattle.planner.specs.Call.{Planned, reply_to, Plans, Returns}
 use Rattle.planner.specs.Demand.{Asked, Bytes, NoneBusy, Serves, at_frequency, excepted}
 use Rattle.controller.specs.Sent.{sent_at}
 use Rattle.planner.specs.Plan.{single, plan_of}
@@ -54,11 +55,15 @@ PlanRefusals =
     → Plans (reply_to wish marks values out) out returned after
     → (number_of returned.answer ≡ 0 → ⊥) → (returned.count ≡ 0) × (after ≡ out)
 
--- No second answer fits.
-abbrev pub OnePlan : Type 0
-OnePlan =
-    (wish : Wish) (marks values out : List ℕ) (a b : Planned) (x y : List ℕ)
-    → Plans (reply_to wish marks values out) out a x → Plans (reply_to wish marks values out) out b y → (a ≡ b) × (x ≡ y)
+-- No second answer fits: two results that both meet the promise of `plan` are one, and so are the buffers; and so it is of a reply
+-- in full.
+pub record OnePlan : Type 0 where
+  pub result :
+      (wish : Wish) (marks values out : List ℕ) (a b : Result ℕ Answer) (x y : List ℕ)
+      → Returns (reply_to wish marks values out) out a x → Returns (reply_to wish marks values out) out b y → (a ≡ b) × (x ≡ y)
+  pub reply :
+      (wish : Wish) (marks values out : List ℕ) (a b : Planned) (x y : List ℕ)
+      → Plans (reply_to wish marks values out) out a x → Plans (reply_to wish marks values out) out b y → (a ≡ b) × (x ≡ y)
 
 -- At most 468 records.
 abbrev pub AtMost468 : Type 0

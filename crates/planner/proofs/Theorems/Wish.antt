@@ -82,7 +82,10 @@ not_wishes wish marks =
     ((wish_fails wish marks).yes, λ not-wished. fails_false (is_wish wish marks) (wish_fails wish marks) not-wished)
 
 pub one_plan : OnePlan
-one_plan wish marks values out a b x y is also = (is.told ∙ sym also.told, is.buffer ∙ sym also.buffer)
+one_plan = record {
+  result = λ wish marks values out a b x y is also. (is.told ∙ sym also.told, is.buffer ∙ sym also.buffer);
+  reply = λ wish marks values out a b x y is also. (is.told ∙ sym also.told, is.buffer ∙ sym also.buffer);
+}
 
 -- a reply with another number than 0 plans nothing
 none_planned : (wish : Wish) (marks values out : List ℕ) → (numbered (reply_to wish marks values out) ≡ 0 → ⊥) → (reply_to wish marks values out).plan ≡ []
