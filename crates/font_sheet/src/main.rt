@@ -48,7 +48,8 @@ fn put_codes(sheet: &mut Sheet, first: u8)
 {
     for code in first..first + 16 {
         // A page takes every text.
-        let _ = write!(sheet, "   {} {code:02X}", letter_of(code));
+        let _ = write!(sheet, "   {} ", letter_of(code));
+        sheet.put_hex(code);
     }
     sheet.put_byte(b'\n');
 }

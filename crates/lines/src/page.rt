@@ -1,6 +1,8 @@
 // A page: text that is put together piece by piece in a buffer of its own, without a heap. What does not fit is left out.
 ghost use Rattle.std.specs.Prelude.{◌≡◌, ◌≤◌, ℕ, List, [], ◌∷◌, ◌++◌, length, take, IsOk};
+ghost use Rattle.lines.specs.Digits.{hex_pair};
 
+use crate::digits::hex_digit;
 use std::fmt;
 use std::fmt::Write;
 use std::marker::Model;
@@ -54,7 +56,17 @@ impl<const N: usize> Page<N> {
     pub fn put_byte(&mut self, byte: u8)
         ensures { self.new ≡ take N (self.old ++ byte ∷ []) }
     {
-        self.put_text(&[byte]);
+        if self.length < N {
+            self.bytes[self.length] = byte;
+            self.length += 1;
+        }
+    }
+
+    // A byte as two upper-case hex digits, as `put_hex` puts them.
+    pub fn put_hex(&mut self, byte: u8)
+        ensures { self.new ≡ take N (self.old ++ hex_pair byte) }
+    {
+        self.put_text(&[hex_digit(byte / 16), hex_digit(byte % 16)]);
     }
 }
 

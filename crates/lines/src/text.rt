@@ -37,7 +37,7 @@ pub fn put_number(out: &mut [u8], at: usize, number: u64) -> usize
     put_text(out, at, first(&digits, length))
 }
 
-// A byte as two hex digits. No other crate calls it any more; its promise keeps it (`PutHexPromise`).
+// A byte as two hex digits, as `Page::put_hex` puts them on a page.
 pub fn put_hex(out: &mut [u8], at: usize, byte: u8) -> usize
     ensures { PutHexPromise out.old at byte result out.new }
 {

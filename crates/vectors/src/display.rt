@@ -47,8 +47,8 @@ fn see_addresses(seen: &mut Seen, codes: &[Option<u8>; 32], n: bool, lines: usiz
             write!(seen, "| ")?;
         }
         for code in line.iter().take(8) {
-            let address = address_of(n, *code);
-            write!(seen, "{address:02X} ")?;
+            seen.put_hex(address_of(n, *code));
+            seen.put_byte(b' ');
         }
     }
     Ok(())
@@ -67,14 +67,18 @@ fn see_dots(seen: &mut Seen, shape: Shape) -> fmt::Result {
 
 // What is seen of a controller in this way of looking.
 pub fn see(seen: &mut Seen, letters: &Letters, bench: &Bench, view: View) -> fmt::Result {
-    let glass = glass_of(bench);
-    let codes = glass.map(|shape| letters.code_of(shape));
-    let [first, second, ..] = glass;
+    // The glass is drawn, and its letters are looked up, where they are asked for alone.
     match view {
-        View::Letters { lines } => see_letters(seen, &codes, cursor_on(&glass), lines),
-        View::Addresses { lines } => see_addresses(seen, &codes, bench.rec.function.n, lines),
-        View::First => see_dots(seen, first),
-        View::Second => see_dots(seen, second),
+        View::Letters { lines } => {
+            let glass = glass_of(bench);
+            see_letters(seen, &letters.codes_of(glass), cursor_on(&glass), lines)
+        }
+        View::Addresses { lines } => {
+            let codes = letters.codes_of(glass_of(bench));
+            see_addresses(seen, &codes, bench.rec.function.n, lines)
+        }
+        View::First => see_dots(seen, glass_of(bench)[0]),
+        View::Second => see_dots(seen, glass_of(bench)[1]),
         View::Record => see_record(seen, bench.rec),
     }
 }

@@ -33,6 +33,11 @@ impl Letters {
             .find(|(_, known)| **known == letter)?;
         Some(code)
     }
+
+    // The codes of a glass, position by position.
+    pub fn codes_of(&self, glass: [Shape; 32]) -> [Option<u8>; 32] {
+        glass.map(|shape| self.code_of(shape))
+    }
 }
 
 // The cursor is all five dots of the eighth row, where no letter has a dot.
