@@ -11,7 +11,7 @@ mod words;
 pub use bad_line::tell_bad_line;
 pub use command::{frequency_of, put_word, word_count};
 pub use input::{Unread, read_input};
-pub use output::{Unheard, Unsent, heard, send, status_of};
+pub use output::{Unheard, Unsent, heard, is_failed, is_heard, is_whole, send, status_of};
 pub use words::{
     send_or_tell, tell, tell_too_long, tell_unread, tell_unwritten, tell_words, whole_or_told,
 };

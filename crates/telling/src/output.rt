@@ -1,5 +1,5 @@
 // Writing a text, and what became of it.
-ghost use Rattle.std.specs.Prelude.{◌≡◌, ◌↔◌, OnOk, IsErr};
+ghost use Rattle.std.specs.Prelude.{◌≡◌, ◌↔◌, IsTrue, OnOk, IsErr, IsOk};
 ghost use Rattle.std.specs.Io.KnownBytes.{Appends};
 ghost use Rattle.std.specs.Process.{exit_status};
 
@@ -37,6 +37,27 @@ pub fn send<W: Write>(to: &mut W, text: &[u8]) -> Result<(), Unsent>
         ErrorKind::BrokenPipe => Unsent::Unheard,
         _ => Unsent::Failed,
     })
+}
+
+// Whether all of it was written.
+pub fn is_whole(sent: Result<(), Unsent>) -> bool
+    ensures { IsTrue result ↔ IsOk sent }
+{
+    sent.is_ok()
+}
+
+// Whether this is to be told.
+pub fn is_failed(sent: Result<(), Unsent>) -> bool
+    ensures { IsTrue result ↔ (sent ≡ Err Unsent.Failed) }
+{
+    matches!(sent, Err(Unsent::Failed))
+}
+
+// Whether a program goes on after this.
+pub fn is_heard(sent: Result<(), Unsent>) -> bool
+    ensures { IsTrue result ↔ (sent ≡ Err Unsent.Unheard → ⊥) }
+{
+    !matches!(sent, Err(Unsent::Unheard))
 }
 
 // A program goes on after a write that failed, and ends where nobody reads it.
