@@ -1,4 +1,6 @@
 // Sends plans to the controller, cut and whole.
+ghost use Rattle.std.specs.Prelude.{◌≤◌, length};
+
 use crate::cells::{cells_by, first_byte, wished_byte};
 use crate::wishes::Named;
 use controller::{Answer, Record, transfer_in};
@@ -37,12 +39,17 @@ impl fmt::Display for Run<'_> {
 
 // The plan of a wish, laid out in this room. No plan is refused or has more than 468 records; one that did would not be played at
 // all, so that every run of it is wrong.
-pub fn lay_out(wish: Wish, named: Named, room: &mut [u8; 2808]) -> &[[u8; 6]] {
+pub fn lay_out(wish: Wish, named: Named, room: &mut [u8; 2808]) -> &[[u8; 6]]
+    ensures { length result.now ≤ 468 }
+{
     let marks = cells_by(|place| u8::from(named.has(place)));
     let values = cells_by(wished_byte);
     let count = plan(wish, &marks, &values, room).unwrap_or(0);
     let (records, _) = room.as_chunks();
-    records.get(..count).unwrap_or(&[])
+    match records.get(..count) {
+        Some(planned) => planned,
+        None => &[],
+    }
 }
 
 // The controller on the way, with its memory: the transfers sent so far, and whether one of them was refused as busy. That is a
