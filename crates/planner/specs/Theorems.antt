@@ -55,8 +55,8 @@ PlanRefusals =
     → Plans (reply_to wish marks values out) out returned after
     → (number_of returned.answer ≡ 0 → ⊥) → (returned.count ≡ 0) × (after ≡ out)
 
--- No second answer fits: two results that both meet the promise of `plan` are one, and so are the buffers; and so it is of a reply
--- in full.
+-- No second answer fits: two results that both meet the promise of `plan` are one, and so are the buffers; and so it is of a
+-- reply in full.
 pub record OnePlan : Type 0 where
   pub result :
       (wish : Wish) (marks values out : List ℕ) (a b : Result ℕ Answer) (x y : List ℕ)

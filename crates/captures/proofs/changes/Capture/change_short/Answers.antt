@@ -1,5 +1,5 @@
--- `captures::changes::Capture::change_short` meets its contract: the one line that a code serves, a code that serves none, and what
--- the table does not tell. Assumes nothing.
+-- `captures::changes::Capture::change_short` meets its contract: the one line that a code serves, a code that serves none, and
+-- what the table does not tell. Assumes nothing.
 use Rattle.std.proofs.Common.{◌<◌, set, sym, refl, ap, ◌∙◌, arith}
 use Rattle.std.proofs.lemmas.List.{map-set}
 use Rattle.captures.specs.Form.{number_of_level, numbers_of}
